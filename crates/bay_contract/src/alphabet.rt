@@ -42,7 +42,7 @@ impl Model for Alphabet {
     ghost invariant = { λ a. IsShaped (seen_as a) };
 }
 
-// The values on these nodes.
+// The values on these nodes, of which all hold one list.
 fn values_on(
     alloc: Global,
     values: &[Contraction],
@@ -53,8 +53,10 @@ fn values_on(
     ensures { IfOk result (λ l. l.items ≡ map (renamed nodes.now) values.now) }
 {
     let mut letters = Vec::with_capacity(alloc, values.len())?;
+    let mut held = None;
     for i in 0..values.len() {
-        letters.push(values[i].renamed(alloc, nodes)?)?;
+        let letter = values[i].on_held_nodes(alloc, nodes.numbers(), &mut held)?;
+        letters.push(letter)?;
     }
     Ok(letters)
 }

@@ -1,6 +1,6 @@
 -- The composition, from what its steps give.
 use Rattle.std.proofs.Common.{◌≡◌, ℕ, ◌<◌, Bool, true, List, length, slice_get, slice_index, Some, ◌∙◌, subst, inl, inr}
-use Rattle.std.proofs.Common.{arith}
+use Rattle.std.proofs.Common.{arith, sym}
 use Rattle.std.proofs.lemmas.Option.{slice_get_within}
 use Rattle.contraction.specs.Answers.{Answers, AreLabels, IsContraction}
 use Rattle.contraction.specs.Composing.{LabelsCompose, MarksCompose, Composes}
@@ -36,10 +36,11 @@ labels_at p p1 la la1 q q1 lb lb1 n n1 labels ep ela eq elb en h =
     (subst (λ x. LabelsOfBoth p la q lb x labels) en h))))
 
 -- The steps of `compose`, of which the slices a, b, p, q, la and lb are seen.
-pub record Made (x y : Inside) (u : Union) (gap load : Row) (bonded a b p la q lb : List ℕ) (count : ℕ) : Type 0 where
-  pub first_kept : a ≡ x.kept.items
-  pub second_kept : b ≡ y.kept.items
+pub record Made (x y : Inside) (u : Union) (kept : List ℕ) (gap load : Row) (bonded a b p la q lb : List ℕ) (count : ℕ) : Type 0 where
+  pub first_kept : a ≡ x.kept
+  pub second_kept : b ≡ y.kept
   pub merged : IsMerged a b u.kept.items u.first.items u.second.items
+  pub kept_is : kept ≡ u.kept.items
   pub gap_row : RowOfBoth u x.gap y.gap gap
   pub load_row : RowOfBoth u x.load y.load load
   pub first_places : p ≡ u.first.items
@@ -49,16 +50,16 @@ pub record Made (x y : Inside) (u : Union) (gap load : Row) (bonded a b p la q l
   pub counted : count ≡ length u.kept.items
   pub bonded_row : LabelsOfBoth p la q lb count bonded
 
-module _ (x y : Inside) (u : Union) (gap load : Row) (bonded a b p la q lb : List ℕ) (count : ℕ)
-    (m : Made x y u gap load bonded a b p la q lb count) where
-  pub union_merged : IsMerged x.kept.items y.kept.items u.kept.items u.first.items u.second.items
+module _ (x y : Inside) (u : Union) (kept : List ℕ) (gap load : Row) (bonded a b p la q lb : List ℕ) (count : ℕ)
+    (m : Made x y u kept gap load bonded a b p la q lb count) where
+  pub union_merged : IsMerged x.kept y.kept u.kept.items u.first.items u.second.items
   union_merged =
-      merged_at a x.kept.items b y.kept.items u.kept.items u.first.items u.second.items m.first_kept
+      merged_at a x.kept b y.kept u.kept.items u.first.items u.second.items m.first_kept
       m.second_kept m.merged
 
-  pub steps_made : Steps (answers_of x) (answers_of y) u.first.items u.second.items
-      (answers_of (record { kept = u.kept; gap = gap; load = load; bonded = bonded }))
-  steps_made = record {
+  steps_merged : Steps (answers_of x) (answers_of y) u.first.items u.second.items
+      (answers_of (record { kept = u.kept.items; gap = gap; load = load; bonded = bonded }))
+  steps_merged = record {
     merged = union_merged;
     coupled = m.gap_row.labels;
     joined = m.load_row.labels;
@@ -70,6 +71,12 @@ module _ (x y : Inside) (u : Union) (gap load : Row) (bonded a b p la q lb : Lis
     fed = m.load_row.first;
     loaded = m.load_row.second;
   }
+
+  pub steps_made : Steps (answers_of x) (answers_of y) u.first.items u.second.items
+      (answers_of (record { kept = kept; gap = gap; load = load; bonded = bonded }))
+  steps_made =
+      subst (λ (k : List ℕ). Steps (answers_of x) (answers_of y) u.first.items u.second.items
+      (answers_of (record { kept = k; gap = gap; load = load; bonded = bonded }))) (sym m.kept_is) steps_merged
 
 class_more : (places labels : List ℕ) (m n : List Bool) (i k : ℕ) →
     ((j : ℕ) → slice_get m j ≡ Some true → slice_get n j ≡ Some true) → MarksClass places labels m i k →

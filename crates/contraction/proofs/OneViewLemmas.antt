@@ -71,8 +71,8 @@ pub in_front_bonded : (k a b c e : List ℕ) → k ++ a ++ b ++ c ++ e ≡ k ++ 
 in_front_bonded k a b c e = simp append_assoc
 
 module _ (x y : Inside) (wx : IsContraction (answers_of x)) (wy : IsContraction (answers_of y)) (nodes : List ℕ)
-    (s : Layout) (is : IsLayout x.kept.items y.kept.items nodes s)
-    (inside : (n : ℕ) → Contains nodes n → Keeps x.kept.items n ⊎ Keeps y.kept.items n) where
+    (s : Layout) (is : IsLayout x.kept y.kept nodes s)
+    (inside : (n : ℕ) → Contains nodes n → Keeps x.kept n ⊎ Keeps y.kept n) where
   module _ (bytes : List ℕ) (h : IsGapText s x.gap y.gap bytes) where
     abbrev gap_wide : Answers
     gap_wide = twice s.union.kept.items h.wide h.wide h.firsts.wide h.seconds.wide h.firsts.wide

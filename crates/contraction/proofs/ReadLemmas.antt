@@ -395,21 +395,26 @@ module _ (bytes seen : List ℕ) (r : IsGapRow bytes) (same : seen ≡ bytes) wh
   gap_parts_seen : GapParts seen (length seen / 6) r.value
   gap_parts_seen = gap_parts r.value r.contraction seen (same ∙ r.row) (length seen / 6) refl
 
-  pub gap_few : length seen / 6 ≤ NODES
-  gap_few = omega (arith, gap_parts_seen.count_is, few_nodes r.value.kept r.contraction.nodes)
+  pub gap_few : length (take (2 * (length seen / 6)) seen) / 2 ≤ NODES
+  gap_few =
+      omega (
+        arith,
+        ap length gap_parts_seen.kept ∙ length-words r.value.kept,
+        few_nodes r.value.kept r.contraction.nodes,
+      )
 
-  -- the row that is read, with the views of no item on as many nodes
-  pub gap_told : (kept labels : List ℕ) (first second : List Bool) (gap other : Row) (bonded : List ℕ) (count : ℕ) →
-      AreBare count other bonded → count ≡ length seen / 6 →
+  -- the row that is read, with the views of no item on its nodes
+  pub gap_told : (kept labels : List ℕ) (first second : List Bool) (gap other : Row) (bonded : List ℕ) →
+      AreBare (length kept) other bonded →
       ((xs : List ℕ) → take (2 * (length seen / 6)) seen ≡ words xs → kept ≡ xs) →
       ((xs : List ℕ) → between (2 * (length seen / 6)) (4 * (length seen / 6)) seen ≡ words xs → labels ≡ xs) →
       ((bs : List Bool) → between (4 * (length seen / 6)) (5 * (length seen / 6)) seen ≡ flags bs → first ≡ bs) →
       ((bs : List Bool) → between (5 * (length seen / 6)) (6 * (length seen / 6)) seen ≡ flags bs → second ≡ bs) →
       gap.labels ≡ labels → gap.first.items ≡ first → gap.second.items ≡ second →
       GapIsRead bytes (gap_beside kept gap.labels gap.first.items gap.second.items other bonded)
-  gap_told kept labels first second gap other bonded count bare as_many ek ec ee ea gl gf gs =
+  gap_told kept labels first second gap other bonded bare ek ec ee ea gl gf gs =
       let p = gap_parts_seen in
-      let n = as_many ∙ p.count_is in
+      let n = ap length (ek r.value.kept p.kept) in
       gap_is_read r.value r.contraction bytes other (subst (λ k. IsBare k other) n bare.bare) r.row bonded
       (subst (λ k. AreAlone k bonded) n bare.alone) kept gap.labels gap.first.items gap.second.items
       (ek r.value.kept p.kept) (gl ∙ ec r.value.coupled p.coupled) (gf ∙ ee r.value.energisable p.energisable)
@@ -419,12 +424,17 @@ module _ (bytes seen : List ℕ) (r : IsLoadRow bytes) (same : seen ≡ bytes) w
   load_parts_seen : LoadParts seen (length seen / 8) r.value
   load_parts_seen = load_parts r.value r.contraction seen (same ∙ r.row) (length seen / 8) refl
 
-  pub load_few : length seen / 8 ≤ NODES
-  load_few = omega (arith, load_parts_seen.count_is, few_nodes r.value.kept r.contraction.nodes)
+  pub load_few : length (take (2 * (length seen / 8)) seen) / 2 ≤ NODES
+  load_few =
+      omega (
+        arith,
+        ap length load_parts_seen.kept ∙ length-words r.value.kept,
+        few_nodes r.value.kept r.contraction.nodes,
+      )
 
-  -- the row that is read, with the views of no item on as many nodes
-  pub load_told : (kept labels bonds bonded : List ℕ) (first second : List Bool) (load other : Row) (alone : List ℕ)
-      (count : ℕ) → AreBare count other alone → count ≡ length seen / 8 →
+  -- the row that is read, with the views of no item on its nodes
+  pub load_told : (kept labels bonds bonded : List ℕ) (first second : List Bool) (load other : Row)
+      (alone : List ℕ) → AreBare (length kept) other alone →
       ((xs : List ℕ) → take (2 * (length seen / 8)) seen ≡ words xs → kept ≡ xs) →
       ((xs : List ℕ) → between (2 * (length seen / 8)) (4 * (length seen / 8)) seen ≡ words xs → labels ≡ xs) →
       ((xs : List ℕ) → between (4 * (length seen / 8)) (6 * (length seen / 8)) seen ≡ words xs → bonds ≡ xs) →
@@ -432,9 +442,9 @@ module _ (bytes seen : List ℕ) (r : IsLoadRow bytes) (same : seen ≡ bytes) w
       ((bs : List Bool) → between (7 * (length seen / 8)) (8 * (length seen / 8)) seen ≡ flags bs → second ≡ bs) →
       bonded ≡ bonds → load.labels ≡ labels → load.first.items ≡ first → load.second.items ≡ second →
       LoadIsRead bytes (load_beside kept load.labels bonded load.first.items load.second.items other)
-  load_told kept labels bonds bonded first second load other alone count bare as_many ek ej eb ef el gb gl gf gs =
+  load_told kept labels bonds bonded first second load other alone bare ek ej eb ef el gb gl gf gs =
       let p = load_parts_seen in
       load_is_read r.value r.contraction bytes other
-      (subst (λ k. IsBare k other) (as_many ∙ p.count_is) bare.bare) r.row kept load.labels bonded load.first.items
+      (subst (λ k. IsBare k other) (ap length (ek r.value.kept p.kept)) bare.bare) r.row kept load.labels bonded load.first.items
       load.second.items (ek r.value.kept p.kept) (gl ∙ ej r.value.joined p.joined)
       (gb ∙ eb r.value.bonded p.bonded) (gf ∙ ef r.value.fed p.fed) (gs ∙ el r.value.loaded p.loaded)

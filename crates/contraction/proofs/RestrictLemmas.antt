@@ -175,9 +175,9 @@ labels_restrict_at l l1 p p1 row el ep h =
 pub record Kept (nodes : List ℕ) (x : Inside) (places kept : List ℕ) (gap load : Row)
     (bonded named seen_kept all_kept p1 p2 p3 seen_bonded p4 : List ℕ) : Type 0 where
   pub names : named ≡ nodes
-  pub kept_seen : seen_kept ≡ x.kept.items
+  pub kept_seen : seen_kept ≡ x.kept
   pub places_of : PlacesOf named seen_kept places
-  pub all_seen : all_kept ≡ x.kept.items
+  pub all_seen : all_kept ≡ x.kept
   pub places1 : p1 ≡ places
   pub picks : Picks all_kept p1 kept
   pub places2 : p2 ≡ places
@@ -209,9 +209,9 @@ module _ (nodes : List ℕ) (x : Inside) (places kept : List ℕ) (gap load : Ro
       let l : RowRestricts x.load places load = row_restricts_at x.load p3 places load m.places3 m.load_row in
       record {
         places_of =
-            subst (λ n. PlacesOf n x.kept.items places) m.names
+            subst (λ n. PlacesOf n x.kept places) m.names
             (subst (λ k. PlacesOf named k places) m.kept_seen m.places_of);
-        kept = picks_at all_kept x.kept.items p1 places kept m.all_seen m.places1 m.picks;
+        kept = picks_at all_kept x.kept p1 places kept m.all_seen m.places1 m.picks;
         coupled = g.labels;
         joined = l.labels;
         bonded = labels_restrict_at seen_bonded x.bonded p4 places bonded m.bonded_seen m.places4 m.bonded_row;

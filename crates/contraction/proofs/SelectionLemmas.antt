@@ -33,10 +33,10 @@ load_row_seen nodes bytes x y sx sy ex ey h =
 
 -- the rows fit the selection
 module _ (x y : Inside) (wx : IsContraction (answers_of x)) (wy : IsContraction (answers_of y)) (nodes : List ℕ)
-    (s : Layout) (is : IsLayout x.kept.items y.kept.items nodes s) where
+    (s : Layout) (is : IsLayout x.kept y.kept nodes s) where
   pub layout_few : length s.union.kept.items ≤ NODES
   layout_few =
-      few_nodes s.union.kept.items (merged_nodes x.kept.items y.kept.items s.union.kept.items s.union.first.items
+      few_nodes s.union.kept.items (merged_nodes x.kept y.kept s.union.kept.items s.union.first.items
       s.union.second.items wx.nodes wy.nodes is.merged)
 
   pub layout_fits : LayoutFits s
@@ -49,7 +49,7 @@ module _ (x y : Inside) (wx : IsContraction (answers_of x)) (wy : IsContraction 
     inside = is.places.below;
   }
 
-  pub first_labels_fit : (l : List ℕ) → AreLabels (length x.kept.items) l →
+  pub first_labels_fit : (l : List ℕ) → AreLabels (length x.kept) l →
       LabelsFit s.union.first.items (length s.union.kept.items) l
   first_labels_fit l w = record {
     len = w.len ∙ sym is.merged.first_len;
@@ -58,7 +58,7 @@ module _ (x y : Inside) (wx : IsContraction (answers_of x)) (wy : IsContraction 
     below = λ k h. w.below k (omega (arith, is.merged.first_len));
   }
 
-  pub second_labels_fit : (l : List ℕ) → AreLabels (length y.kept.items) l →
+  pub second_labels_fit : (l : List ℕ) → AreLabels (length y.kept) l →
       LabelsFit s.union.second.items (length s.union.kept.items) l
   second_labels_fit l w = record {
     len = w.len ∙ sym is.merged.second_len;
@@ -99,14 +99,14 @@ module _ (x y : Inside) (wx : IsContraction (answers_of x)) (wy : IsContraction 
 module _ (x y : Inside) (t : Chosen) (sx sy : Answers) (s : Selected) (wx : IsContraction (answers_of x))
     (wy : IsContraction (answers_of y)) (laid : IsLaid t) (ex : answers_of x ≡ sx) (ey : answers_of y ≡ sy)
     (et : selected_of t ≡ s) (ef : s.first ≡ sx.kept) (es : s.second ≡ sy.kept) where
-  pub laid_on : IsLayout x.kept.items y.kept.items s.nodes t.layout
+  pub laid_on : IsLayout x.kept y.kept s.nodes t.layout
   laid_on =
-      let first : t.first.items ≡ x.kept.items =
+      let first : t.first.items ≡ x.kept =
       ap (λ (r : Selected). r.first) et ∙ ef ∙ sym (ap (λ (a : Answers). a.kept) ex) in
-      let second : t.second.items ≡ y.kept.items =
+      let second : t.second.items ≡ y.kept =
       ap (λ (r : Selected). r.second) et ∙ es ∙ sym (ap (λ (a : Answers). a.kept) ey) in
-      subst (λ l. IsLayout x.kept.items y.kept.items l t.layout) (ap (λ (r : Selected). r.nodes) et)
-      (subst (λ l. IsLayout x.kept.items l t.nodes.items t.layout) second
+      subst (λ l. IsLayout x.kept y.kept l t.layout) (ap (λ (r : Selected). r.nodes) et)
+      (subst (λ l. IsLayout x.kept l t.nodes.items t.layout) second
       (subst (λ l. IsLayout l t.second.items t.nodes.items t.layout) first laid))
 
   module _ (inside : (n : ℕ) → Contains s.nodes n → Keeps sx.kept n ⊎ Keeps sy.kept n) (bytes : List ℕ) where

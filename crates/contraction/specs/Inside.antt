@@ -7,7 +7,7 @@ use Rattle.contraction.specs.declared.selection.Selection.TheInside.{Inside as C
 -- The answers that the struct holds.
 abbrev pub answers_of : Inside → Answers
 answers_of c = record {
-  kept = c.kept.items;
+  kept = c.kept;
   coupled = c.gap.labels;
   joined = c.load.labels;
   bonded = c.bonded;

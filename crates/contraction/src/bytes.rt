@@ -131,7 +131,7 @@ impl Contraction {
         ensures row { IfOk result (λ t. t ≡ words self.now.kept) }
         ensures answers { IsContraction self.now }
     {
-        bytes_from(alloc, &self.kept, each)
+        bytes_from(alloc, self.kept.nodes(), each)
     }
 
     // Appends the gap view.

@@ -7,6 +7,7 @@ ghost use Rattle.contraction.specs.Answers.{Keeps, IsContraction};
 ghost use Rattle.contraction.specs.Stands.{Among, MeetsKept, GapStandsFor, LoadStandsFor};
 ghost use Rattle.contraction.specs.Composing.{Composes, Restricts};
 
+use crate::kept_nodes::KeptNodes;
 use crate::merge::merge;
 use crate::places::{picked, places_of};
 use crate::shared_row::{SharedRow, bonds_at, bonds_of_both};
@@ -38,7 +39,7 @@ impl Contraction {
             → LoadStandsFor (Among others) d v other.now
             → LoadStandsFor (Among (items ++ others)) d v c) }
     {
-        let union = merge(alloc, &self.kept, &other.kept)?;
+        let union = merge(alloc, self.kept.nodes(), other.kept.nodes())?;
         let gap = SharedRow::of_both(alloc, &union, &self.gap, &other.gap)?;
         let load = SharedRow::of_both(alloc, &union, &self.load, &other.load)?;
         let bonded = bonds_of_both(
@@ -49,8 +50,9 @@ impl Contraction {
             &union.second,
             other.bonded.numbers(),
         )?;
+        let kept = KeptNodes::new(alloc, union.kept)?;
         Ok(Contraction {
-            kept: union.kept,
+            kept,
             gap,
             load,
             bonded,
@@ -71,9 +73,10 @@ impl Contraction {
         ensures load { IfOk result (λ c. (items : List Item) (d : Diagram) (v : List Bool)
             → LoadStandsFor (Among items) d v self.now → LoadStandsFor (Among items) d v c) }
     {
-        let places = places_of(alloc, &self.kept, nodes.numbers())?;
+        let all = self.kept.nodes();
+        let places = places_of(alloc, all, nodes.numbers())?;
         Ok(Contraction {
-            kept: picked(alloc, &self.kept, &places)?,
+            kept: KeptNodes::new(alloc, picked(alloc, all, &places)?)?,
             gap: self.gap.at(alloc, &places)?,
             load: self.load.at(alloc, &places)?,
             bonded: bonds_at(alloc, self.bonded.numbers(), &places)?,

@@ -10,6 +10,7 @@ ghost use Rattle.contraction.specs.Stands.{Among, StandsFor};
 ghost use Rattle.contraction.specs.Single.{IsPair, IsSingle};
 
 use crate::empty_views::EmptyViews;
+use crate::kept_nodes::KeptNodes;
 use crate::shared_row::{SharedRow, bonds_of_one, bonds_of_two};
 use crate::value::Contraction;
 use ilk_base::{Kind, Memory, SwitchId};
@@ -34,13 +35,10 @@ fn acts_as(kind: Kind, wanted: Kind, closed: bool) -> bool
 }
 
 // Two nodes as a rising list.
-fn rising(alloc: Global, a: u16, b: u16) -> Result<Vec<u16>, Memory>
-    ensures { IfOk result (λ list. list.items ≡ min a b ∷ max a b ∷ []) }
+fn rising(alloc: Global, a: u16, b: u16) -> Result<KeptNodes, Memory>
+    ensures { IfOk result (λ list. list ≡ min a b ∷ max a b ∷ []) }
 {
-    let mut list = Vec::with_capacity(alloc, 2)?;
-    list.push(a.min(b))?;
-    list.push(a.max(b))?;
-    Ok(list)
+    KeptNodes::of(alloc, &[a.min(b), a.max(b)])
 }
 
 impl Contraction {
@@ -82,7 +80,7 @@ impl Contraction {
         ensures contraction { IfOk result IsContraction }
     {
         Ok(Contraction {
-            kept: vec![in alloc; node; 1]?,
+            kept: KeptNodes::of(alloc, &[node])?,
             gap: SharedRow::of_one(alloc, energisable, earthable)?,
             load: SharedRow::of_one(alloc, fed, loaded)?,
             bonded: bonds_of_one(alloc)?,
@@ -97,9 +95,10 @@ impl Contraction {
         ensures stands { IfOk result
             (λ c. (d : Diagram) (v : List Bool) → StandsFor (Among []) d v c) }
     {
-        let views = EmptyViews::of(alloc, kept.len() as u16)?;
+        let list = KeptNodes::of(alloc, kept.numbers())?;
+        let views = EmptyViews::of(alloc, list)?;
         Ok(Contraction {
-            kept: Vec::from_slice(alloc, kept.numbers())?,
+            kept: views.kept,
             gap: views.row.share()?,
             load: views.row,
             bonded: views.bonded,

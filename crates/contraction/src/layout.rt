@@ -7,8 +7,8 @@ ghost use Rattle.contraction.specs.Selecting.{IsLayout, LayoutFits, RowSelected,
 use crate::bytes::{KEPT_BYTES, bytes_from};
 use crate::labels::{labels_at, labels_of_both};
 use crate::merge::{Union, merge};
+use crate::numbers::same_numbers;
 use crate::places::{picked, places_of};
-use crate::renamed::same_numbers;
 use crate::row::Row;
 use ilk_base::{Memory, Text};
 use station_graph::NodeList;

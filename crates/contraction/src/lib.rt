@@ -13,11 +13,13 @@ mod empty_views;
 mod ends;
 mod few_rows;
 mod items;
+mod kept_nodes;
 mod labels;
 mod laws;
 mod layout;
 mod marks;
 mod merge;
+mod numbers;
 mod one_view;
 mod places;
 mod read_row;
@@ -31,6 +33,7 @@ mod value;
 
 pub use both_rows::BothRows;
 pub use empty_views::EmptyViews;
+pub use kept_nodes::KeptNodes;
 pub use laws::{
     composition_respects_views, fewer_nodes_tell_less, gap_views_are_equal, load_views_are_equal,
     nodes_in_one_order_compose_alike, one_view_is_that_of_both, one_view_respects_it,

@@ -1,5 +1,5 @@
 //! The value that a row tells.
-ghost use Rattle.std.specs.Prelude.{◌≡◌, ◌+◌, ◌*◌, ◌/◌, ◌<◌, ℕ, Bool, List, [], length, slice_index, IfOk};
+ghost use Rattle.std.specs.Prelude.{◌≡◌, ℕ, Bool, List, [], length, IfOk};
 ghost use Rattle.station_graph.specs.Diagram.{Diagram};
 ghost use Rattle.contraction.specs.Answers.{Answers, IsContraction};
 ghost use Rattle.contraction.specs.Composing.{IsGapOfBoth, IsLoadOfBoth, IsGapRowOfBoth, IsLoadRowOfBoth};
@@ -8,6 +8,7 @@ ghost use Rattle.contraction.specs.Stands.{Among, GapStandsFor, LoadStandsFor};
 
 use crate::bytes::{GAP_BYTES, LOAD_BYTES};
 use crate::empty_views::{EmptyViews, empty_views_on};
+use crate::numbers::number_at;
 use crate::row::Row;
 use crate::shared_row::{SharedLabels, SharedRow};
 use crate::value::Contraction;
@@ -15,34 +16,7 @@ use ilk_base::{Memory, NodeId, Text};
 use station_graph::NodeList;
 use std::alloc::Global;
 
-// The number that two bytes of the list are, the higher one first.
-fn number_at(bytes: &[u8], i: usize) -> u16
-    requires { 2 * i + 1 < length bytes.now }
-    ensures { (numbers : List ℕ) → bytes.now ≡ words numbers → result ≡ slice_index numbers i }
-{
-    u16::from(bytes[2 * i]) * 256 + u16::from(bytes[2 * i + 1])
-}
-
-// Reads the numbers of which these are the bytes into a list that has room for them.
-fn read_numbers(numbers: &mut [u16], bytes: &[u8])
-    requires { length numbers.old ≡ length bytes.now / 2 }
-    ensures { (list : List ℕ) → bytes.now ≡ words list → numbers.new ≡ list }
-{
-    for i in 0..numbers.len() {
-        numbers[i] = number_at(bytes, i);
-    }
-}
-
-// The numbers of which these are the bytes.
-fn numbers_of(alloc: Global, bytes: &[u8]) -> Result<Vec<u16>, Memory>
-    ensures { IfOk result (λ v. (numbers : List ℕ) → bytes.now ≡ words numbers → v.items ≡ numbers) }
-{
-    let mut numbers = vec![in alloc; 0; bytes.len() / 2]?;
-    read_numbers(&mut numbers, bytes);
-    Ok(numbers)
-}
-
-// The same as labels.
+// The labels of which these are the bytes.
 fn labels_of(alloc: Global, bytes: &[u8]) -> Result<NodeList, Memory>
     ensures { IfOk result (λ l. (numbers : List ℕ) → bytes.now ≡ words numbers → l ≡ numbers) }
 {
@@ -75,8 +49,9 @@ fn bits_of(alloc: Global, bytes: &[u8]) -> Result<Vec<bool>, Memory>
 
 impl Contraction {
     /// The value that this gap row tells: it has that row, and in the load view it is that of no item. So who has
-    /// worked out a row makes its value without composing again. The load view is that of the empty views at hand where
-    /// they are on as many nodes; else new ones are at hand afterwards.
+    /// worked out a row makes its value without composing again. The kept nodes and the load view are those at hand
+    /// where these nodes are the same, and then take no memory; the load view at hand also serves where the nodes are
+    /// others, but as many. What the value holds of both is at hand afterwards.
     ///
     /// Time and memory: the row.
     pub fn of_gap_row(
@@ -93,7 +68,7 @@ impl Contraction {
     {
         let bytes = row.bytes();
         let count = bytes.len() / GAP_BYTES;
-        let kept = numbers_of(alloc, &bytes[..2 * count])?;
+        let empty = empty_views_on(alloc, held, &bytes[..2 * count])?;
         let labels = labels_of(alloc, &bytes[2 * count..4 * count])?;
         let first = bits_of(alloc, &bytes[4 * count..5 * count])?;
         let second = bits_of(alloc, &bytes[5 * count..6 * count])?;
@@ -103,17 +78,16 @@ impl Contraction {
             second,
         };
         let gap = SharedRow::new(alloc, row)?;
-        let empty = empty_views_on(alloc, held, count as u16)?;
         Ok(Contraction {
-            kept,
+            kept: empty.kept,
             gap,
             load: empty.row,
             bonded: empty.bonded,
         })
     }
 
-    /// The value that this load row tells: it has that row, and in the gap view it is that of no item, of the
-    /// empty views at hand as for `of_gap_row`.
+    /// The value that this load row tells: it has that row, and in the gap view it is that of no item. The kept nodes
+    /// and the gap view at hand serve as for `of_gap_row`.
     ///
     /// Time and memory: the row.
     pub fn of_load_row(
@@ -130,7 +104,7 @@ impl Contraction {
     {
         let bytes = row.bytes();
         let count = bytes.len() / LOAD_BYTES;
-        let kept = numbers_of(alloc, &bytes[..2 * count])?;
+        let empty = empty_views_on(alloc, held, &bytes[..2 * count])?;
         let labels = labels_of(alloc, &bytes[2 * count..4 * count])?;
         let bonds = labels_of(alloc, &bytes[4 * count..6 * count])?;
         let first = bits_of(alloc, &bytes[6 * count..7 * count])?;
@@ -142,9 +116,8 @@ impl Contraction {
         };
         let load = SharedRow::new(alloc, row)?;
         let bonded = SharedLabels::new(alloc, bonds)?;
-        let empty = empty_views_on(alloc, held, count as u16)?;
         Ok(Contraction {
-            kept,
+            kept: empty.kept,
             gap: empty.row,
             load,
             bonded,

@@ -3,26 +3,13 @@ ghost use Rattle.std.specs.Prelude.{◌≡◌, ◌↔◌, length, IfOk, IsTrue};
 ghost use Rattle.contraction.specs.Answers.{AreNodes, IsContraction};
 ghost use Rattle.contraction.specs.Renaming.{renamed, SameRow};
 
+use crate::kept_nodes::{KeptNodes, kept_nodes_on};
+use crate::numbers::same_numbers;
 use crate::row::Row;
 use crate::value::Contraction;
 use ilk_base::Memory;
 use station_graph::NodeList;
 use std::alloc::Global;
-
-// Whether the numbers are the same. There are few of them, and then this takes less time than `==`.
-pub(crate) fn same_numbers(a: &[u16], b: &[u16]) -> bool
-    ensures { IsTrue result ↔ (a.now ≡ b.now) }
-{
-    if a.len() != b.len() {
-        return false;
-    }
-    for i in 0..a.len() {
-        if a[i] != b[i] {
-            return false;
-        }
-    }
-    true
-}
 
 // Whether the marks are the same.
 fn same_marks(a: &[bool], b: &[bool]) -> bool
@@ -49,14 +36,29 @@ impl Contraction {
         ensures nodes { result.now ≡ self.now.kept }
         ensures answers { IsContraction self.now }
     {
-        &self.kept
+        self.kept.nodes()
     }
 
     /// Whether these are the kept nodes, in their order. Time: the nodes. Takes no memory.
     pub fn keeps_just(&self, nodes: &[u16]) -> bool
         ensures { IsTrue result ↔ (self.now.kept ≡ nodes.now) }
     {
-        same_numbers(&self.kept, nodes)
+        same_numbers(self.kept.nodes(), nodes)
+    }
+
+    // The same answers on the nodes of this list.
+    fn on_kept(&self, kept: KeptNodes) -> Result<Contraction, Memory>
+        requires nodes { AreNodes kept }
+        requires count { length kept ≡ length self.now.kept }
+        ensures renamed { IfOk result (λ c. c ≡ renamed kept self.now) }
+        ensures contraction { IfOk result IsContraction }
+    {
+        Ok(Contraction {
+            kept,
+            gap: self.gap.share()?,
+            load: self.load.share()?,
+            bonded: self.bonded.share()?,
+        })
     }
 
     /// The same answers on other nodes, which rise and are as many as the kept ones: the first of them in the
@@ -68,12 +70,25 @@ impl Contraction {
         ensures renamed { IfOk result (λ c. c ≡ renamed nodes.now self.now) }
         ensures contraction { IfOk result IsContraction }
     {
-        Ok(Contraction {
-            kept: Vec::from_slice(alloc, nodes)?,
-            gap: self.gap.share()?,
-            load: self.load.share()?,
-            bonded: self.bonded.share()?,
-        })
+        let kept = KeptNodes::of(alloc, nodes)?;
+        self.on_kept(kept)
+    }
+
+    /// What `on_nodes` gives, for many values on the same nodes: they hold the list at hand where it is that of these
+    /// nodes, and else a new one, which is at hand afterwards. Time: the nodes. Memory: those of a new list.
+    pub fn on_held_nodes(
+        &self,
+        alloc: Global,
+        nodes: &[u16],
+        held: &mut Option<KeptNodes>,
+    ) -> Result<Contraction, Memory>
+        requires nodes { AreNodes nodes.now }
+        requires count { length nodes.now ≡ length self.now.kept }
+        ensures renamed { IfOk result (λ c. c ≡ renamed nodes.now self.now) }
+        ensures contraction { IfOk result IsContraction }
+    {
+        let kept = kept_nodes_on(alloc, held, nodes)?;
+        self.on_kept(kept)
     }
 
     /// What `on_nodes` gives on the nodes of a list.

@@ -4,7 +4,7 @@ ghost use Rattle.contraction.specs.Answers.{AreNodes};
 ghost use Rattle.contraction.specs.Selecting.{ArePlaced};
 
 use crate::layout::Layout;
-use crate::renamed::same_numbers;
+use crate::numbers::same_numbers;
 use ilk_base::Memory;
 use station_graph::NodeList;
 use std::alloc::Global;

@@ -7,6 +7,7 @@ ghost use Rattle.contraction.specs.Answers.{IsContraction, Keeps, SaysCoupled, S
 ghost use Rattle.contraction.specs.Answers.{SaysEarthable, SaysFed, SaysLoaded, SaysSupply, supply_of};
 ghost use Rattle.contraction.specs.Stands.{Among, LoadStandsFor};
 
+use crate::kept_nodes::KeptNodes;
 use crate::places::{is_marked, same_label};
 use crate::shared_row::{SharedLabels, SharedRow};
 use crate::supply::Supply;
@@ -20,7 +21,7 @@ use std::marker::Model;
 /// For which items and positions a value stands is said by the calls that make it.
 #[derive(Drop)]
 pub struct Contraction {
-    pub(crate) kept: Vec<u16>,
+    pub(crate) kept: KeptNodes,
     pub(crate) gap: SharedRow,
     pub(crate) load: SharedRow,
     pub(crate) bonded: SharedLabels,
@@ -44,7 +45,7 @@ impl Contraction {
         ensures kept { IsTrue result ↔ Keeps self.now.kept node.0 }
         ensures answers { IsContraction self.now }
     {
-        self.kept.contains(&node.0)
+        self.kept.nodes().contains(&node.0)
     }
 
     /// Whether all these nodes are kept. Time: the kept nodes times the nodes.
@@ -65,7 +66,12 @@ impl Contraction {
         requires second { Keeps self.now.kept b.0 }
         ensures { IsTrue result ↔ SaysJoined self.now a.0 b.0 }
     {
-        same_label(&self.kept, self.load.row().labels.numbers(), a.0, b.0)
+        same_label(
+            self.kept.nodes(),
+            self.load.row().labels.numbers(),
+            a.0,
+            b.0,
+        )
     }
 
     /// Whether the items join two kept nodes without those links that are no bonds.
@@ -74,7 +80,7 @@ impl Contraction {
         requires second { Keeps self.now.kept b.0 }
         ensures { IsTrue result ↔ SaysBonded self.now a.0 b.0 }
     {
-        same_label(&self.kept, self.bonded.numbers(), a.0, b.0)
+        same_label(self.kept.nodes(), self.bonded.numbers(), a.0, b.0)
     }
 
     /// Whether the items join two kept nodes where each breaker counts as closed.
@@ -83,7 +89,7 @@ impl Contraction {
         requires second { Keeps self.now.kept b.0 }
         ensures { IsTrue result ↔ SaysCoupled self.now a.0 b.0 }
     {
-        same_label(&self.kept, self.gap.row().labels.numbers(), a.0, b.0)
+        same_label(self.kept.nodes(), self.gap.row().labels.numbers(), a.0, b.0)
     }
 
     /// Whether the items couple a kept node to a closed infeed among them.
@@ -91,7 +97,7 @@ impl Contraction {
         requires { Keeps self.now.kept a.0 }
         ensures { IsTrue result ↔ SaysEnergisable self.now a.0 }
     {
-        is_marked(&self.kept, &self.gap.row().first, a.0)
+        is_marked(self.kept.nodes(), &self.gap.row().first, a.0)
     }
 
     /// Whether the items couple a kept node to a closed earthing switch among them.
@@ -99,7 +105,7 @@ impl Contraction {
         requires { Keeps self.now.kept a.0 }
         ensures { IsTrue result ↔ SaysEarthable self.now a.0 }
     {
-        is_marked(&self.kept, &self.gap.row().second, a.0)
+        is_marked(self.kept.nodes(), &self.gap.row().second, a.0)
     }
 
     /// How the items supply a kept node.
@@ -125,7 +131,7 @@ impl Contraction {
         requires { Keeps self.now.kept a.0 }
         ensures { IsTrue result ↔ SaysFed self.now a.0 }
     {
-        is_marked(&self.kept, &self.load.row().first, a.0)
+        is_marked(self.kept.nodes(), &self.load.row().first, a.0)
     }
 
     // Whether the items join a kept node to a closed infeed or to a tap.
@@ -133,6 +139,6 @@ impl Contraction {
         requires { Keeps self.now.kept a.0 }
         ensures { IsTrue result ↔ SaysLoaded self.now a.0 }
     {
-        is_marked(&self.kept, &self.load.row().second, a.0)
+        is_marked(self.kept.nodes(), &self.load.row().second, a.0)
     }
 }

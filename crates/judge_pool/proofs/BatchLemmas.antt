@@ -103,7 +103,7 @@ selects_other p s h =
     }) g
 
 -- and with other empty views at hand
-pub empty_other : (p : Pool) (b : Option ℕ) → IsPool p → GrewTo p (record p { empty_views = b })
+pub empty_other : (p : Pool) (b : Option (List ℕ)) → IsPool p → GrewTo p (record p { empty_views = b })
 empty_other p b h =
     let q : Pool = record p { empty_views = b } in
     let g : Grows p q = record {

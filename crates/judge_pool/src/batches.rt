@@ -54,7 +54,8 @@ fn adds_nothing(view: View, x: &Contraction, y: &Contraction, selection: &Select
     }
 }
 
-// The value that the row tells in this view. Its other view is that at hand, if it is on as many nodes.
+// The value that the row tells in this view. Its kept nodes are those at hand, if they are the same, and its other view
+// is that at hand, if it is on as many nodes.
 fn value_of(
     alloc: Global,
     view: View,

@@ -19,7 +19,8 @@ use std::collections::hash_map::Entry;
 /// the other, and where each begins is noted, so that none is made twice, but for those that were forgotten when they
 /// were many; so are the layers of graphs, by the numbers of the lists of their states and letters, and what a value is
 /// on other nodes, and a list of values, by its number. The selection of the last composition is at hand for the next,
-/// which is mostly of values on the same nodes; so are the empty views that were the other view of the last value made.
+/// which is mostly of values on the same nodes; so are the kept nodes of the last value made, with the empty views that
+/// were its other view.
 #[derive(Drop)]
 pub struct Pool {
     /// the view

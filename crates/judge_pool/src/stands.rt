@@ -8,6 +8,7 @@ use crate::batch::Stand;
 use crate::lying::all_keep;
 use crate::pool::Pool;
 use crate::view::row_on;
+use contraction::KeptNodes;
 use ilk_base::Memory;
 use number_hash::NumberMap;
 use std::alloc::Global;
@@ -33,8 +34,14 @@ fn note_stand(notes: &mut NumberMap<Stand, usize>, stand: Stand, id: usize) -> R
 }
 
 impl Pool {
-    // The value on these nodes. Where the pool has it, its row tells it, and it is not made.
-    fn find_or_place(&mut self, alloc: Global, stand: Stand) -> Result<usize, Memory>
+    // The value on these nodes. Where the pool has it, its row tells it, and it is not made; else it holds the list of
+    // these nodes at hand.
+    fn find_or_place(
+        &mut self,
+        alloc: Global,
+        stand: Stand,
+        held: &mut Option<KeptNodes>,
+    ) -> Result<usize, Memory>
         requires pool { IsPool self.old }
         requires can { CanStand self.old stand.keep stand.id }
         ensures grew { OnOk result (GrewTo self.old self.new) }
@@ -46,7 +53,7 @@ impl Pool {
         match self.index.entry(row)? {
             Entry::Occupied(entry) => Ok(*entry.get()),
             Entry::Vacant(entry) => {
-                let placed = value.on_nodes(alloc, nodes)?;
+                let placed = value.on_held_nodes(alloc, nodes, held)?;
                 let place = self.values.len();
                 self.values.push(placed)?;
                 entry.insert(place);
@@ -56,19 +63,29 @@ impl Pool {
     }
 
     // The value on these nodes, found or made, and noted.
-    fn new_stand(&mut self, alloc: Global, stand: Stand) -> Result<usize, Memory>
+    fn new_stand(
+        &mut self,
+        alloc: Global,
+        stand: Stand,
+        held: &mut Option<KeptNodes>,
+    ) -> Result<usize, Memory>
         requires pool { IsPool self.old }
         requires can { CanStand self.old stand.keep stand.id }
         ensures grew { OnOk result (GrewTo self.old self.new) }
         ensures on { IfOk result (IsOn self.new stand.keep stand.id) }
     {
-        let id = self.find_or_place(alloc, stand)?;
+        let id = self.find_or_place(alloc, stand, held)?;
         note_stand(&mut self.stands, stand, id)?;
         Ok(id)
     }
 
     // The value on these nodes in place of its own.
-    fn stand(&mut self, alloc: Global, stand: Stand) -> Result<usize, Memory>
+    fn stand(
+        &mut self,
+        alloc: Global,
+        stand: Stand,
+        held: &mut Option<KeptNodes>,
+    ) -> Result<usize, Memory>
         requires pool { IsPool self.old }
         requires can { CanStand self.old stand.keep stand.id }
         ensures grew { OnOk result (GrewTo self.old self.new) }
@@ -77,13 +94,13 @@ impl Pool {
         match find_stand(&self.stands, stand) {
             Some(id) => Ok(id),
             None => {
-                let id = self.new_stand(alloc, stand)?;
+                let id = self.new_stand(alloc, stand, held)?;
                 Ok(id)
             }
         }
     }
 
-    // The values of these numbers on the nodes of the list, one by one.
+    // The values of these numbers on the nodes of the list, one by one. Those that are made hold one list of them.
     fn each_on(&mut self, alloc: Global, ids: &[usize], keep: usize) -> Result<Vec<usize>, Memory>
         requires pool { IsPool self.old }
         requires can { (k i : ℕ) → slice_get ids.now k ≡ Some i → CanStand self.old keep i }
@@ -91,9 +108,10 @@ impl Pool {
         ensures on { IfOk result (λ v. AreOn self.new keep ids.now v.items) }
     {
         let mut placed = Vec::with_capacity(alloc, ids.len())?;
+        let mut held = None;
         'values: for c in 0..ids.len() {
             let stand = Stand { id: ids[c], keep };
-            let id = self.stand(alloc, stand)?;
+            let id = self.stand(alloc, stand, &mut held)?;
             placed.push(id)?;
         }
         Ok(placed)

@@ -3,7 +3,7 @@ ghost use Rattle.std.specs.Prelude.{◌≡◌, length};
 ghost use Rattle.contraction.specs.Answers.{AreNodes};
 
 use crate::composed::{Items, first_nodes, is_whole, kept_of};
-use contraction::Contraction;
+use contraction::{Contraction, KeptNodes};
 use station_graph::{NodeList, Station};
 use std::alloc::Global;
 use test_stations::{Example, StationRow, rows_hold};
@@ -55,11 +55,42 @@ fn keeps_exactly(value: &Contraction, nodes: &[u16]) -> bool {
     value.keeps_just(nodes) && value.nodes() == nodes
 }
 
+// Whether the value on these nodes keeps just them and answers as before, whichever list is at hand.
+fn is_on_held(
+    alloc: Global,
+    value: &Contraction,
+    nodes: &[u16],
+    held: &mut Option<KeptNodes>,
+) -> bool
+    requires nodes { AreNodes nodes.now }
+    requires count { length nodes.now ≡ length value.now.kept }
+{
+    match value.on_held_nodes(alloc, nodes, held) {
+        Ok(moved) => keeps_exactly(&moved, nodes) && moved.answers_as(value),
+        Err(_) => false,
+    }
+}
+
+// Whether it is so with no list at hand, with that of its own nodes, and with that of these.
+fn is_on_each_held(alloc: Global, value: &Contraction, nodes: &[u16]) -> bool
+    requires nodes { AreNodes nodes.now }
+    requires count { length nodes.now ≡ length value.now.kept }
+{
+    let mut held = None;
+    let own = is_on_held(alloc, value, value.nodes(), &mut held);
+    let others = is_on_held(alloc, value, nodes, &mut held);
+    let again = is_on_held(alloc, value, nodes, &mut held);
+    own && others && again
+}
+
 // The value on these nodes in place of its own, where they are as many.
 fn on_nodes(alloc: Global, value: &Contraction, nodes: &NodeList) -> Option<Contraction>
     requires { AreNodes nodes.now }
 {
     if nodes.len() != value.nodes().len() {
+        return None;
+    }
+    if !is_on_each_held(alloc, value, nodes.numbers()) {
         return None;
     }
     let Ok(moved) = value.on_nodes(alloc, nodes.numbers()) else {

@@ -13,23 +13,23 @@ use Rattle.contraction.proofs.value.Contraction.compose.Goals as goal
 pub of_both-requires-clause-few : goal.of_both-requires-clause-few
 of_both-requires-clause-few c =
     let u = c.in_ok-union.union in
-    merged_few c.deref.result.now c.self.inside.kept.items c.deref-2.result.now c.other.inside.kept.items u.kept.items
-    u.first.items u.second.items c.deref.ensures.value c.deref-2.ensures.value c.self.invariant.nodes
+    merged_few c.nodes.result.now c.self.inside.kept c.nodes-2.result.now c.other.inside.kept u.kept.items
+    u.first.items u.second.items c.nodes.ensures c.nodes-2.ensures c.self.invariant.nodes
     c.other.invariant.nodes c.in_ok-union.ensures
 
 pub of_both-requires-2-clause-few : goal.of_both-requires-2-clause-few
 of_both-requires-2-clause-few c =
     let u = c.in_ok-union.union in
-    merged_few c.deref.result.now c.self.inside.kept.items c.deref-2.result.now c.other.inside.kept.items u.kept.items
-    u.first.items u.second.items c.deref.ensures.value c.deref-2.ensures.value c.self.invariant.nodes
+    merged_few c.nodes.result.now c.self.inside.kept c.nodes-2.result.now c.other.inside.kept u.kept.items
+    u.first.items u.second.items c.nodes.ensures c.nodes-2.ensures c.self.invariant.nodes
     c.other.invariant.nodes c.in_ok-union.ensures
 
 pub overflow_cast-len : goal.overflow_cast-len
 overflow_cast-len c =
     let u = c.in_ok-union.union in
     let few : length u.kept.items ≤ NODES =
-    merged_few c.deref.result.now c.self.inside.kept.items c.deref-2.result.now c.other.inside.kept.items u.kept.items
-    u.first.items u.second.items c.deref.ensures.value c.deref-2.ensures.value c.self.invariant.nodes
+    merged_few c.nodes.result.now c.self.inside.kept c.nodes-2.result.now c.other.inside.kept u.kept.items
+    u.first.items u.second.items c.nodes.ensures c.nodes-2.ensures c.self.invariant.nodes
     c.other.invariant.nodes c.in_ok-union.ensures in
     omega (arith, c.len.ensures)
 
@@ -37,17 +37,17 @@ pub bonds_of_both-requires-clause-first : goal.bonds_of_both-requires-clause-fir
 bonds_of_both-requires-clause-first c =
     let x = c.self.inside in
     let u = c.in_ok-union.union in
-    first_fits c.deref.result.now x.kept.items c.deref-2.result.now u.kept.items u.first.items u.second.items x.bonded
-    c.deref-3.result.now c.numbers.result.now c.len.result c.in_ok-union.ensures c.deref.ensures.value
-    c.self.invariant.bonded c.deref-3.ensures.value c.numbers.ensures (omega arith)
+    first_fits c.nodes.result.now x.kept c.nodes-2.result.now u.kept.items u.first.items u.second.items x.bonded
+    c.deref.result.now c.numbers.result.now c.len.result c.in_ok-union.ensures c.nodes.ensures
+    c.self.invariant.bonded c.deref.ensures.value c.numbers.ensures (omega arith)
 
 pub bonds_of_both-requires-clause-second : goal.bonds_of_both-requires-clause-second
 bonds_of_both-requires-clause-second c =
     let y = c.other.inside in
     let u = c.in_ok-union.union in
-    second_fits c.deref.result.now c.deref-2.result.now y.kept.items u.kept.items u.first.items u.second.items y.bonded
-    c.deref-4.result.now c.numbers-2.result.now c.len.result c.in_ok-union.ensures c.deref-2.ensures.value
-    c.other.invariant.bonded c.deref-4.ensures.value c.numbers-2.ensures (omega arith)
+    second_fits c.nodes.result.now c.nodes-2.result.now y.kept u.kept.items u.first.items u.second.items y.bonded
+    c.deref-2.result.now c.numbers-2.result.now c.len.result c.in_ok-union.ensures c.nodes-2.ensures
+    c.other.invariant.bonded c.deref-2.ensures.value c.numbers-2.ensures (omega arith)
 
 pub invariant_of-result : goal.invariant_of-result
 invariant_of-result c =
@@ -57,23 +57,25 @@ invariant_of-result c =
     let gap = c.in_ok-gap.gap in
     let load = c.in_ok-load.load in
     let bonded : List ℕ = c.in_ok-bonded.bonded in
-    let z : Answers = answers_of (record { kept = u.kept; gap = gap; load = load; bonded = bonded }) in
-    let made : Made x y u gap load bonded c.deref.result.now c.deref-2.result.now c.deref-3.result.now
-    c.numbers.result.now c.deref-4.result.now c.numbers-2.result.now c.len.result = record {
-      first_kept = c.deref.ensures.value;
-      second_kept = c.deref-2.ensures.value;
+    let kept : List ℕ = c.in_ok-kept.kept in
+    let z : Answers = answers_of (record { kept = kept; gap = gap; load = load; bonded = bonded }) in
+    let made : Made x y u kept gap load bonded c.nodes.result.now c.nodes-2.result.now c.deref.result.now
+    c.numbers.result.now c.deref-2.result.now c.numbers-2.result.now c.len.result = record {
+      first_kept = c.nodes.ensures;
+      second_kept = c.nodes-2.ensures;
       merged = c.in_ok-union.ensures;
+      kept_is = c.in_ok-kept.ensures;
       gap_row = c.in_ok-gap.ensures;
       load_row = c.in_ok-load.ensures;
-      first_places = c.deref-3.ensures.value;
+      first_places = c.deref.ensures.value;
       first_labels = c.numbers.ensures;
-      second_places = c.deref-4.ensures.value;
+      second_places = c.deref-2.ensures.value;
       second_labels = c.numbers-2.ensures;
       counted = omega arith;
       bonded_row = c.in_ok-bonded.ensures;
     } in
-    let steps = steps_made x y u gap load bonded c.deref.result.now c.deref-2.result.now c.deref-3.result.now
-    c.numbers.result.now c.deref-4.result.now c.numbers-2.result.now c.len.result made in
+    let steps = steps_made x y u kept gap load bonded c.nodes.result.now c.nodes-2.result.now c.deref.result.now
+    c.numbers.result.now c.deref-2.result.now c.numbers-2.result.now c.len.result made in
     composed_well (answers_of x) (answers_of y) z u.first.items u.second.items c.self.invariant c.other.invariant steps
 
 pub returns-clause-contraction : goal.returns-clause-contraction
@@ -84,23 +86,25 @@ returns-clause-contraction c =
     let gap = c.in_ok-gap.gap in
     let load = c.in_ok-load.load in
     let bonded : List ℕ = c.in_ok-bonded.bonded in
-    let z : Answers = answers_of (record { kept = u.kept; gap = gap; load = load; bonded = bonded }) in
-    let made : Made x y u gap load bonded c.deref.result.now c.deref-2.result.now c.deref-3.result.now
-    c.numbers.result.now c.deref-4.result.now c.numbers-2.result.now c.len.result = record {
-      first_kept = c.deref.ensures.value;
-      second_kept = c.deref-2.ensures.value;
+    let kept : List ℕ = c.in_ok-kept.kept in
+    let z : Answers = answers_of (record { kept = kept; gap = gap; load = load; bonded = bonded }) in
+    let made : Made x y u kept gap load bonded c.nodes.result.now c.nodes-2.result.now c.deref.result.now
+    c.numbers.result.now c.deref-2.result.now c.numbers-2.result.now c.len.result = record {
+      first_kept = c.nodes.ensures;
+      second_kept = c.nodes-2.ensures;
       merged = c.in_ok-union.ensures;
+      kept_is = c.in_ok-kept.ensures;
       gap_row = c.in_ok-gap.ensures;
       load_row = c.in_ok-load.ensures;
-      first_places = c.deref-3.ensures.value;
+      first_places = c.deref.ensures.value;
       first_labels = c.numbers.ensures;
-      second_places = c.deref-4.ensures.value;
+      second_places = c.deref-2.ensures.value;
       second_labels = c.numbers-2.ensures;
       counted = omega arith;
       bonded_row = c.in_ok-bonded.ensures;
     } in
-    let steps = steps_made x y u gap load bonded c.deref.result.now c.deref-2.result.now c.deref-3.result.now
-    c.numbers.result.now c.deref-4.result.now c.numbers-2.result.now c.len.result made in
+    let steps = steps_made x y u kept gap load bonded c.nodes.result.now c.nodes-2.result.now c.deref.result.now
+    c.numbers.result.now c.deref-2.result.now c.numbers-2.result.now c.len.result made in
     composed_well (answers_of x) (answers_of y) z u.first.items u.second.items c.self.invariant c.other.invariant steps
 
 pub returns-clause-composes : goal.returns-clause-composes
@@ -111,23 +115,25 @@ returns-clause-composes c =
     let gap = c.in_ok-gap.gap in
     let load = c.in_ok-load.load in
     let bonded : List ℕ = c.in_ok-bonded.bonded in
-    let z : Answers = answers_of (record { kept = u.kept; gap = gap; load = load; bonded = bonded }) in
-    let made : Made x y u gap load bonded c.deref.result.now c.deref-2.result.now c.deref-3.result.now
-    c.numbers.result.now c.deref-4.result.now c.numbers-2.result.now c.len.result = record {
-      first_kept = c.deref.ensures.value;
-      second_kept = c.deref-2.ensures.value;
+    let kept : List ℕ = c.in_ok-kept.kept in
+    let z : Answers = answers_of (record { kept = kept; gap = gap; load = load; bonded = bonded }) in
+    let made : Made x y u kept gap load bonded c.nodes.result.now c.nodes-2.result.now c.deref.result.now
+    c.numbers.result.now c.deref-2.result.now c.numbers-2.result.now c.len.result = record {
+      first_kept = c.nodes.ensures;
+      second_kept = c.nodes-2.ensures;
       merged = c.in_ok-union.ensures;
+      kept_is = c.in_ok-kept.ensures;
       gap_row = c.in_ok-gap.ensures;
       load_row = c.in_ok-load.ensures;
-      first_places = c.deref-3.ensures.value;
+      first_places = c.deref.ensures.value;
       first_labels = c.numbers.ensures;
-      second_places = c.deref-4.ensures.value;
+      second_places = c.deref-2.ensures.value;
       second_labels = c.numbers-2.ensures;
       counted = omega arith;
       bonded_row = c.in_ok-bonded.ensures;
     } in
-    let steps = steps_made x y u gap load bonded c.deref.result.now c.deref-2.result.now c.deref-3.result.now
-    c.numbers.result.now c.deref-4.result.now c.numbers-2.result.now c.len.result made in
+    let steps = steps_made x y u kept gap load bonded c.nodes.result.now c.nodes-2.result.now c.deref.result.now
+    c.numbers.result.now c.deref-2.result.now c.numbers-2.result.now c.len.result made in
     let composes : Composes c.args.self.now c.args.other.now z =
     subst (λ s. Composes s c.args.other.now z) c.self.view_is
     (subst (λ s. Composes (answers_of x) s z) c.other.view_is
@@ -142,23 +148,25 @@ returns-clause-gap c =
     let gap = c.in_ok-gap.gap in
     let load = c.in_ok-load.load in
     let bonded : List ℕ = c.in_ok-bonded.bonded in
-    let z : Answers = answers_of (record { kept = u.kept; gap = gap; load = load; bonded = bonded }) in
-    let made : Made x y u gap load bonded c.deref.result.now c.deref-2.result.now c.deref-3.result.now
-    c.numbers.result.now c.deref-4.result.now c.numbers-2.result.now c.len.result = record {
-      first_kept = c.deref.ensures.value;
-      second_kept = c.deref-2.ensures.value;
+    let kept : List ℕ = c.in_ok-kept.kept in
+    let z : Answers = answers_of (record { kept = kept; gap = gap; load = load; bonded = bonded }) in
+    let made : Made x y u kept gap load bonded c.nodes.result.now c.nodes-2.result.now c.deref.result.now
+    c.numbers.result.now c.deref-2.result.now c.numbers-2.result.now c.len.result = record {
+      first_kept = c.nodes.ensures;
+      second_kept = c.nodes-2.ensures;
       merged = c.in_ok-union.ensures;
+      kept_is = c.in_ok-kept.ensures;
       gap_row = c.in_ok-gap.ensures;
       load_row = c.in_ok-load.ensures;
-      first_places = c.deref-3.ensures.value;
+      first_places = c.deref.ensures.value;
       first_labels = c.numbers.ensures;
-      second_places = c.deref-4.ensures.value;
+      second_places = c.deref-2.ensures.value;
       second_labels = c.numbers-2.ensures;
       counted = omega arith;
       bonded_row = c.in_ok-bonded.ensures;
     } in
-    let steps = steps_made x y u gap load bonded c.deref.result.now c.deref-2.result.now c.deref-3.result.now
-    c.numbers.result.now c.deref-4.result.now c.numbers-2.result.now c.len.result made in
+    let steps = steps_made x y u kept gap load bonded c.nodes.result.now c.nodes-2.result.now c.deref.result.now
+    c.numbers.result.now c.deref-2.result.now c.numbers-2.result.now c.len.result made in
     let composes : Composes c.args.self.now c.args.other.now z =
     subst (λ s. Composes s c.args.other.now z) c.self.view_is
     (subst (λ s. Composes (answers_of x) s z) c.other.view_is
@@ -175,23 +183,25 @@ returns-clause-load c =
     let gap = c.in_ok-gap.gap in
     let load = c.in_ok-load.load in
     let bonded : List ℕ = c.in_ok-bonded.bonded in
-    let z : Answers = answers_of (record { kept = u.kept; gap = gap; load = load; bonded = bonded }) in
-    let made : Made x y u gap load bonded c.deref.result.now c.deref-2.result.now c.deref-3.result.now
-    c.numbers.result.now c.deref-4.result.now c.numbers-2.result.now c.len.result = record {
-      first_kept = c.deref.ensures.value;
-      second_kept = c.deref-2.ensures.value;
+    let kept : List ℕ = c.in_ok-kept.kept in
+    let z : Answers = answers_of (record { kept = kept; gap = gap; load = load; bonded = bonded }) in
+    let made : Made x y u kept gap load bonded c.nodes.result.now c.nodes-2.result.now c.deref.result.now
+    c.numbers.result.now c.deref-2.result.now c.numbers-2.result.now c.len.result = record {
+      first_kept = c.nodes.ensures;
+      second_kept = c.nodes-2.ensures;
       merged = c.in_ok-union.ensures;
+      kept_is = c.in_ok-kept.ensures;
       gap_row = c.in_ok-gap.ensures;
       load_row = c.in_ok-load.ensures;
-      first_places = c.deref-3.ensures.value;
+      first_places = c.deref.ensures.value;
       first_labels = c.numbers.ensures;
-      second_places = c.deref-4.ensures.value;
+      second_places = c.deref-2.ensures.value;
       second_labels = c.numbers-2.ensures;
       counted = omega arith;
       bonded_row = c.in_ok-bonded.ensures;
     } in
-    let steps = steps_made x y u gap load bonded c.deref.result.now c.deref-2.result.now c.deref-3.result.now
-    c.numbers.result.now c.deref-4.result.now c.numbers-2.result.now c.len.result made in
+    let steps = steps_made x y u kept gap load bonded c.nodes.result.now c.nodes-2.result.now c.deref.result.now
+    c.numbers.result.now c.deref-2.result.now c.numbers-2.result.now c.len.result made in
     let composes : Composes c.args.self.now c.args.other.now z =
     subst (λ s. Composes s c.args.other.now z) c.self.view_is
     (subst (λ s. Composes (answers_of x) s z) c.other.view_is

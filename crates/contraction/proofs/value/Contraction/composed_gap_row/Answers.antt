@@ -9,7 +9,7 @@ gap_text-requires-clause-fits c =
     let x = c.self.inside in
     let y = c.other.inside in
     let t = c.selection.inside in
-    let laid : IsLayout x.kept.items y.kept.items c.args.selection.now.nodes t.layout =
+    let laid : IsLayout x.kept y.kept c.args.selection.now.nodes t.layout =
     laid_on x y t c.args.self.now c.args.other.now c.args.selection.now c.self.invariant c.other.invariant
     c.selection.invariant c.self.view_is c.other.view_is c.selection.view_is c.requires.first c.requires.second in
     layout_fits x y c.self.invariant c.other.invariant c.args.selection.now.nodes t.layout laid
@@ -19,7 +19,7 @@ gap_text-requires-clause-first c =
     let x = c.self.inside in
     let y = c.other.inside in
     let t = c.selection.inside in
-    let laid : IsLayout x.kept.items y.kept.items c.args.selection.now.nodes t.layout =
+    let laid : IsLayout x.kept y.kept c.args.selection.now.nodes t.layout =
     laid_on x y t c.args.self.now c.args.other.now c.args.selection.now c.self.invariant c.other.invariant
     c.selection.invariant c.self.view_is c.other.view_is c.selection.view_is c.requires.first c.requires.second in
     first_gap_fits x y c.self.invariant c.other.invariant c.args.selection.now.nodes t.layout laid
@@ -29,7 +29,7 @@ gap_text-requires-clause-second c =
     let x = c.self.inside in
     let y = c.other.inside in
     let t = c.selection.inside in
-    let laid : IsLayout x.kept.items y.kept.items c.args.selection.now.nodes t.layout =
+    let laid : IsLayout x.kept y.kept c.args.selection.now.nodes t.layout =
     laid_on x y t c.args.self.now c.args.other.now c.args.selection.now c.self.invariant c.other.invariant
     c.selection.invariant c.self.view_is c.other.view_is c.selection.view_is c.requires.first c.requires.second in
     second_gap_fits x y c.self.invariant c.other.invariant c.args.selection.now.nodes t.layout laid

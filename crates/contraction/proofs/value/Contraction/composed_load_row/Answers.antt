@@ -12,7 +12,7 @@ load_text-requires-clause-fits c =
     let x = c.self.inside in
     let y = c.other.inside in
     let t = c.selection.inside in
-    let laid : IsLayout x.kept.items y.kept.items c.args.selection.now.nodes t.layout =
+    let laid : IsLayout x.kept y.kept c.args.selection.now.nodes t.layout =
     laid_on x y t c.args.self.now c.args.other.now c.args.selection.now c.self.invariant c.other.invariant
     c.selection.invariant c.self.view_is c.other.view_is c.selection.view_is c.requires.first c.requires.second in
     layout_fits x y c.self.invariant c.other.invariant c.args.selection.now.nodes t.layout laid
@@ -22,7 +22,7 @@ load_text-requires-clause-first c =
     let x = c.self.inside in
     let y = c.other.inside in
     let t = c.selection.inside in
-    let laid : IsLayout x.kept.items y.kept.items c.args.selection.now.nodes t.layout =
+    let laid : IsLayout x.kept y.kept c.args.selection.now.nodes t.layout =
     laid_on x y t c.args.self.now c.args.other.now c.args.selection.now c.self.invariant c.other.invariant
     c.selection.invariant c.self.view_is c.other.view_is c.selection.view_is c.requires.first c.requires.second in
     first_load_fits x y c.self.invariant c.other.invariant c.args.selection.now.nodes t.layout laid
@@ -32,7 +32,7 @@ load_text-requires-clause-second c =
     let x = c.self.inside in
     let y = c.other.inside in
     let t = c.selection.inside in
-    let laid : IsLayout x.kept.items y.kept.items c.args.selection.now.nodes t.layout =
+    let laid : IsLayout x.kept y.kept c.args.selection.now.nodes t.layout =
     laid_on x y t c.args.self.now c.args.other.now c.args.selection.now c.self.invariant c.other.invariant
     c.selection.invariant c.self.view_is c.other.view_is c.selection.view_is c.requires.first c.requires.second in
     second_load_fits x y c.self.invariant c.other.invariant c.args.selection.now.nodes t.layout laid
@@ -42,7 +42,7 @@ load_text-requires-clause-first_bonds c =
     let x = c.self.inside in
     let y = c.other.inside in
     let t = c.selection.inside in
-    let laid : IsLayout x.kept.items y.kept.items c.args.selection.now.nodes t.layout =
+    let laid : IsLayout x.kept y.kept c.args.selection.now.nodes t.layout =
     laid_on x y t c.args.self.now c.args.other.now c.args.selection.now c.self.invariant c.other.invariant
     c.selection.invariant c.self.view_is c.other.view_is c.selection.view_is c.requires.first c.requires.second in
     subst (λ l. LabelsFit t.layout.union.first.items (length t.layout.union.kept.items) l)
@@ -54,7 +54,7 @@ load_text-requires-clause-second_bonds c =
     let x = c.self.inside in
     let y = c.other.inside in
     let t = c.selection.inside in
-    let laid : IsLayout x.kept.items y.kept.items c.args.selection.now.nodes t.layout =
+    let laid : IsLayout x.kept y.kept c.args.selection.now.nodes t.layout =
     laid_on x y t c.args.self.now c.args.other.now c.args.selection.now c.self.invariant c.other.invariant
     c.selection.invariant c.self.view_is c.other.view_is c.selection.view_is c.requires.first c.requires.second in
     subst (λ l. LabelsFit t.layout.union.second.items (length t.layout.union.kept.items) l)

@@ -1,9 +1,9 @@
 use Rattle.std.proofs.Common.{◌≡◌, ℕ, List, length, ap, ◌∙◌, arith}
 use Rattle.contraction.proofs.RowLemmas.{length-words, same_entries}
-use Rattle.contraction.proofs.read_row.read_numbers.Goals as goal
+use Rattle.contraction.proofs.numbers.read_numbers.Goals as goal
 
-pub returns : goal.returns
-returns c = λ numbers e.
+pub returns-clause-read : goal.returns-clause-read
+returns-clause-read c = λ numbers e.
     let found : List ℕ = c.loop-i.numbers in
     let long : length found ≡ length numbers =
     omega (arith, c.loop-i.invariant.0, ap length e ∙ length-words numbers) in

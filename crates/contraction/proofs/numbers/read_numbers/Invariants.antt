@@ -1,6 +1,6 @@
 use Rattle.std.proofs.Common.{◌≡◌, ℕ, ◌<◌, ◌/◌, List, length, slice_index}
 use Rattle.contraction.specs.Rows.{words}
-use Rattle.contraction.proofs.read_row.read_numbers.Given as goal
+use Rattle.contraction.proofs.numbers.read_numbers.Given as goal
 
 abbrev pub invariant-loop-i : goal.invariant-loop-i
 invariant-loop-i l =

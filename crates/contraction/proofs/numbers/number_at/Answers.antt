@@ -1,6 +1,6 @@
 use Rattle.std.proofs.Common.{◌*◌, ◌+◌, ℕ, slice_index, ap, ◌∙◌, arith}
 use Rattle.contraction.proofs.RowLemmas.{word_high, word_low}
-use Rattle.contraction.proofs.read_row.number_at.Goals as goal
+use Rattle.contraction.proofs.numbers.number_at.Goals as goal
 
 pub returns : goal.returns
 returns c = λ numbers e.
