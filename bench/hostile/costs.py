@@ -323,12 +323,18 @@ def wide_blocks():
 CHANGES = b"command open S/V1/Q1/QA1\ntick\nwithdraw\n"
 
 
-def decisions(height, direction, heard, most):
+def with_loose(text, bay):
+    """The drawing with one more disconnector in the bay, at two nodes at which nothing else is: closing it breaks no rule."""
+    nodes = "".join(f'<ConnectivityNode name="{key}" pathName="{key}"/>' for key in ("loose", "end"))
+    return text.replace(f'<Bay name="{bay}">', f'<Bay name="{bay}">{nodes}{equipment("X", "DIS", [end("loose"), end("end")])}')
+
+
+def decisions(height, direction, switch, heard, most):
     """Commands to a bay in the middle of a grid, each decided by a tick and withdrawn, in so many bytes. Before the tick
     comes a grant of the first bay, if any: it says that all its switches are on, so that not all nodes of a graph are
     reached."""
     bay = height // 2
-    command, ends = f"command {direction} S/V/1-{bay}/R\n", "tick\nwithdraw\n"
+    command, ends = f"command {direction} S/V/1-{bay}/{switch}\n", "tick\nwithdraw\n"
     lines, length = [], 0
     for number in range(1, most):
         grant = f"frame 0200{3 * bay + 1:02x}{number:08x}000108\n" if heard else ""
@@ -352,13 +358,14 @@ def floods():
         for part in PARTS:
             given = line * (1_000_000 // line.count(b"\n") // part)
             yield Case(f"node: a million {what}", ["node", "a", "S/V1/Q1"], {"a": two}, given, 0, 0.5, 8)
-    for direction in ("open", "close"):
+    for direction, switch, how in (("open", "R", ""), ("close", "R", ""), ("close", "X", " a loose one")):
         for heard in (False, True):
             for part in PARTS:
                 height = 8 // part + 1
-                bay, given = f"S/V/1-{height // 2}", decisions(height, direction, heard, LONGEST // part)
-                what = f"8 MiB of commands to {direction}, decided {'after a grant' if heard else 'by a tick'}"
-                yield Case(f"node: {what}, on a grid of 3 by {height}", ["node", "a", bay], {"a": grid(3, height).encode()}, given, 0, by_edges=True)
+                bay, given = f"1-{height // 2}", decisions(height, direction, switch, heard, LONGEST // part)
+                text = with_loose(grid(3, height), bay) if how else grid(3, height)
+                what = f"8 MiB of commands to {direction}{how}, decided {'after a grant' if heard else 'by a tick'}"
+                yield Case(f"node: {what}, on a grid of 3 by {height}", ["node", "a", f"S/V/{bay}"], {"a": text.encode()}, given, 0, by_edges=True)
     for part in PARTS:
         yield Case("stored: 3,000 such lines, each change on the disk", ["stored", "a", "S/V1/Q1", "k"], {"a": two}, CHANGES * (1_000 // part), 0)
     start = "".join(f"at,{path},{word}\n" for path, word in words.items())

@@ -42,7 +42,7 @@ label_in g sets cs fit fits allows =
     leads_in g.labels g.layers sets cs 0 fit fits allows (some_node g.labels g.layers fit)
 
 -- the sets of a graph that has a layer
-split_sets : (ls : List Layer) (sets : List (List Bool)) → 0 < length ls → AreSetsOf ls sets →
+pub split_sets : (ls : List Layer) (sets : List (List Bool)) → 0 < length ls → AreSetsOf ls sets →
     sets ≡ set_at sets 0 ∷ drop 1 sets
 split_sets [] sets some fits = absurd (omega arith)
 split_sets (l ∷ ls) [] some fits = absurd (cc)

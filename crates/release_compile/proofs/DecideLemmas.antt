@@ -26,7 +26,8 @@ use Rattle.release_compile.specs.Deciding.{OthersAgree}
 use Rattle.judge_intake.proofs.MoveLemmas.{index_moves}
 use Rattle.judge_intake.proofs.OuterLemmas.{other_not}
 use Rattle.judge_intake.proofs.OtherLemmas.{switch_not, length_after}
-use Rattle.release_compile.proofs.VerdictLemmas.{allowed_length, allowed_at, length_sets, set_after, within_of}
+use Rattle.release_compile.proofs.VerdictLemmas.{allowed_length, allowed_at, within_of}
+use Rattle.release_compile.proofs.WithinLemmas.{length_sets, set_after}
 
 -- allowed choices that lead to a label are one for each layer
 pub chain_fits : (s : Side) (sets : List (List Bool)) (others goal : ℕ) (cs all : List ℕ) → IsReady s sets →

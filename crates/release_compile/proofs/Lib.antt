@@ -1,4 +1,5 @@
 pub mod ChainLemmas
+pub mod WithinLemmas
 pub mod VerdictLemmas
 pub mod WideLemmas
 pub mod MostLemmas
@@ -14,3 +15,4 @@ pub mod HeardLemmas
 pub mod ReachesLemmas
 pub mod TellsLemmas
 pub mod DenyingLemmas
+pub mod OwnLemmas

@@ -11,7 +11,7 @@ use Rattle.judge_pool.specs.Lettered.{Lettered, index_count}
 use Rattle.release_compile.specs.Chaining.{IsFound}
 use Rattle.judge_pool.specs.Graphs.{other_of}
 use Rattle.release_compile.specs.Sides.{AreSides}
-use Rattle.release_compile.proofs.VerdictLemmas.{length_sets}
+use Rattle.release_compile.proofs.WithinLemmas.{length_sets}
 use Rattle.release_compile.proofs.HeardLemmas.{two_choices, allowed_index}
 use Rattle.release_compile.proofs.DecideLemmas.{found_fits}
 

@@ -1,9 +1,8 @@
 -- THE VERDICT: what the four graphs say of a vector, and so of all vectors that are allowed.
-use Rattle.std.proofs.Common.{◌≡◌, ◌≢◌, ℕ, ◌<◌, zero, suc, Bool, false, eqb, List, []}
+use Rattle.std.proofs.Common.{◌≡◌, ◌≢◌, ℕ, ◌<◌, zero, suc, Bool, eqb, List, []}
 use Rattle.std.proofs.Common.{◌∷◌, length, drop, get_or, slice_get, Some, None, refl, sym, ap, ◌∙◌, subst, inl, inr}
 use Rattle.std.proofs.Common.{arith}
 use Rattle.std.proofs.lemmas.Bool.{cases_eq, false≢true, ne_eqb}
-use Rattle.std.proofs.lemmas.List.{length-map}
 use Rattle.std.proofs.lemmas.Option.{slice_get-get_or, same_Some}
 use Rattle.ilk_base.specs.declared.words.Dbpos.{Dbpos}
 use Rattle.ilk_base.specs.declared.words.Direction.{Direction}
@@ -13,8 +12,6 @@ use Rattle.ilk_base.specs.declared.words.Rule.{Rule}
 use Rattle.ilk_base.specs.declared.words.Rule.TheVariants.{R1, R2, R3}
 use Rattle.double_points.specs.Words.{Agrees}
 use Rattle.station_graph.specs.Diagram.{Diagram, part_count}
-use Rattle.station_graph.specs.Connection.{a_switch}
-use Rattle.station_graph.specs.Sharing.{OfPart}
 use Rattle.station_graph.specs.Alike.{IsVector}
 use Rattle.station_graph.specs.CentralRules.{Breaks, GapBreaks}
 use Rattle.judge_pool.specs.Lettered.{Lettered}
@@ -27,24 +24,8 @@ use Rattle.judge_pool.specs.Folding.{AreChosen}
 use Rattle.release_compile.specs.Chaining.{LeadThrough, NoneLeadsTo, IsChainOf, GapFree, IsFound}
 use Rattle.judge_pool.specs.Graphs.{other_of, PartChosen, SwitchChosen, gap_rule, LabelSays, IsOwn}
 use Rattle.release_compile.specs.Allowed.{Within, IsSide, GivesChoices}
-use Rattle.judge_intake.proofs.OtherLemmas.{other_in, own_place, code, code_back, code_small, element, length_after}
-
--- ---- lists of allowed choices
-
--- one allowed choice for each set, as a list
-pick : (P : ℕ → ℕ → Type 0) (sets : List (List Bool)) →
-    ((j : ℕ) → j < length sets → (c : ℕ) × P j c × IsSet (set_at sets j) c) →
-    (cs : List ℕ) × (length cs ≡ length sets) × ((i c : ℕ) → slice_get cs i ≡ Some c → P i c) × AreAllowed sets cs
-pick P [] h = ([], refl, λ i c e. absurd (cc), tt)
-pick P (s ∷ ss) h =
-    let x = h 0 (omega arith) in
-    let r = pick (λ j. P (suc j)) ss (λ j lt. h (suc j) (omega arith)) in
-    (x.0 ∷ r.0, ap suc r.1, entries x.0 r.0 x.1 r.2, (x.2, r.3))
-  where
-    entries : (y : ℕ) (cs : List ℕ) → P 0 y → ((i c : ℕ) → slice_get cs i ≡ Some c → P (suc i) c) → (i c : ℕ) →
-        slice_get (y ∷ cs) i ≡ Some c → P i c
-    entries y cs p q zero c e = subst (λ z. P 0 z) (same_Some y c e) p
-    entries y cs p q (suc i) c e = q i c e
+use Rattle.judge_intake.proofs.OtherLemmas.{own_place}
+use Rattle.release_compile.proofs.WithinLemmas.{length_sets, set_after, sets_count, own_count, choices_within}
 
 pub allowed_length : (sets : List (List Bool)) (cs : List ℕ) → AreAllowed sets cs → length cs ≡ length sets
 allowed_length [] [] a = refl
@@ -52,70 +33,33 @@ allowed_length [] (c ∷ cs) a = absurd a
 allowed_length (s ∷ ss) [] a = absurd a
 allowed_length (s ∷ ss) (c ∷ cs) a = ap suc (allowed_length ss cs a.1)
 
-pub length_sets : (ls : List Layer) (sets : List (List Bool)) → AreSetsOf ls sets → length sets ≡ length ls
-length_sets ls sets e = sym (length-map sets length) ∙ (ap length e ∙ length-map ls (λ (l : Layer). l.choices))
-
-pub set_after : (sets : List (List Bool)) (i : ℕ) → set_at (drop 1 sets) i ≡ set_at sets (suc i)
-set_after [] i = refl
-set_after (s ∷ ss) i = refl
-
 -- ---- one view
 
 module _ (view : View) (a : Lettered) (b m first others : ℕ) (words : List Dbpos) (sets : List (List Bool)) (s : Side)
     (is_own : IsOwn a.diagram b m first others) (side : IsSide view a b m first others words sets s) where
-  sets_count : suc (length sets) ≡ part_count a.diagram
-  sets_count = omega (arith, length_sets s.outer.now.layers sets side.ready.fits, side.outer_is.count)
+  sets_of_side : suc (length sets) ≡ part_count a.diagram
+  sets_of_side =
+      sets_count view a b m first others words sets s.inner_sets side.names s.outer.now s.inner.now is_own side.outer_is
+      side.inner_is side.ready.fits side.ready.inner_fits side.own
 
-  own_count : length (drop 1 s.inner_sets) ≡ others
-  own_count =
-      length_after others s.inner_sets
-      (length_sets s.inner.now.layers s.inner_sets side.ready.inner_fits ∙ side.inner_is.count)
+  own_of_side : length (drop 1 s.inner_sets) ≡ others
+  own_of_side =
+      own_count view a b m first others words sets s.inner_sets side.names s.outer.now s.inner.now is_own side.outer_is
+      side.inner_is side.ready.fits side.ready.inner_fits side.own
 
-  module _ (v : List Bool) (within : Within a b words sets v) where
-    -- the position of an other switch, as an allowed choice
-    own_choice : (i : ℕ) → i < length (drop 1 s.inner_sets) →
-        (c : ℕ) × SwitchChosen first m i c v × IsSet (set_at (drop 1 s.inner_sets) i) c
-    own_choice i lt =
-        let i_in : i < others = omega (arith, lt, own_count) in
-        let o = other_of first m i in
-        let range = other_in first m others i i_in in
-        let in_d : o < length a.diagram.switches = omega (arith, range.1, is_own.those.within) in
-        let o_in : o < length v = omega (arith, in_d, within.whole) in
-        let closed : Bool = get_or v o false in
-        let at_v : slice_get v o ≡ Some closed = slice_get-get_or v o false o_in in
-        let x = element a.diagram.switches o in_d in
-        let of_b : OfPart a.diagram b (a_switch o) = (x.0, x.1, (is_own.those.those o x.0 x.1).1 range) in
-        let agrees : (word : Dbpos) → slice_get words o ≡ Some word → Agrees word (eqb (code closed) 1) =
-        λ word at_w. subst (λ t. Agrees word t) (sym (code_back closed)) (within.own o word closed of_b at_w at_v) in (
-          code closed,
-          record { small = code_small closed; stands = at_v ∙ ap Some (sym (code_back closed)) },
-          subst (λ t. IsSet t (code closed)) (sym (set_after s.inner_sets i))
-              ((side.own i (code closed) i_in (code_small closed)).1 agrees),
-        )
-
-    outer_choices : (cs : List ℕ) × (length cs ≡ length sets)
-        × ((i c : ℕ) → slice_get cs i ≡ Some c → PartChosen a b i c v) × AreAllowed sets cs
-    outer_choices = pick (λ j c. PartChosen a b j c v) sets (λ j lt. within.others j (omega (arith, lt, sets_count)))
-
-    own_choices : (ds : List ℕ) × (length ds ≡ length (drop 1 s.inner_sets))
-        × ((i c : ℕ) → slice_get ds i ≡ Some c → SwitchChosen first m i c v) × AreAllowed (drop 1 s.inner_sets) ds
-    own_choices = pick (λ i c. SwitchChosen first m i c v) (drop 1 s.inner_sets) own_choice
-
-    -- allowed choices lead to a label that says what holds in the vector
-    pub says_within : (label : ℕ) × (cs ds : List ℕ) × LeadThrough s.outer.now s.inner.now sets s.inner_sets label cs ds
-        × LabelSays view a.diagram m v label
-    says_within =
-        let o = outer_choices in
-        let w = own_choices in
-        let named = side.outer_is.named v o.0 within.whole (o.1 ∙ length_sets s.outer.now.layers sets side.ready.fits)
-        o.2 in
-        let says = side.inner_is.says v (label_of s.outer.now o.0) w.0 within.whole named (w.1 ∙ own_count) w.2 in (
-          label_of s.inner.now (label_of s.outer.now o.0 ∷ w.0),
-          o.0,
-          w.0,
-          record { outer_allows = o.3; inner_allows = w.3; led = refl },
-          says,
-        )
+  -- allowed choices lead to a label that says what holds in the vector
+  pub says_within : (v : List Bool) → Within a b words sets v → (label : ℕ) × (cs ds : List ℕ)
+      × LeadThrough s.outer.now s.inner.now sets s.inner_sets label cs ds × LabelSays view a.diagram m v label
+  says_within v within =
+      let w =
+      choices_within view a b m first others words sets s.inner_sets side.names s.outer.now s.inner.now is_own
+      side.outer_is side.inner_is side.ready.fits side.ready.inner_fits side.own v within in (
+        label_of s.inner.now (label_of s.outer.now w.0 ∷ w.1),
+        w.0,
+        w.1,
+        record { outer_allows = w.2; inner_allows = w.3; led = refl },
+        w.4,
+      )
 
   -- a label that is led to says what holds in each vector that gives these choices
   pub says_chain : (goal : ℕ) (cs all : List ℕ) → IsChainOf s sets goal cs all → (v : List Bool) →
@@ -126,7 +70,7 @@ module _ (view : View) (a : Lettered) (b m first others : ℕ) (words : List Dbp
       let named = side.outer_is.named v cs whole len chosen in
       let rest : drop 1 all ≡ c.rest = ap (drop 1) c.split in
       let says = side.inner_is.says v (label_of s.outer.now cs) c.rest whole named
-      (allowed_length (drop 1 s.inner_sets) c.rest c.leads.inner_allows ∙ own_count)
+      (allowed_length (drop 1 s.inner_sets) c.rest c.leads.inner_allows ∙ own_of_side)
       (subst (λ ds. AreChosen (SwitchChosen first m) v ds) rest own) in
       subst (λ l. LabelSays view a.diagram m v l) c.leads.led says
 
@@ -243,7 +187,7 @@ module _ (view : View) (a : Lettered) (b m first others : ℕ) (words : List Dbp
           | inr ne ↦
               let k = own_place first m others i is_own.from is_own.below range.0 range.1 ne in
               let own_len = allowed_length (drop 1 s.inner_sets) c.rest c.leads.inner_allows
-              ∙ own_count view a b m first others words sets s is_own side in
+              ∙ own_of_side view a b m first others words sets s is_own side in
               let choice : ℕ = get_or c.rest k.0 0 in
               let at_c : slice_get c.rest k.0 ≡ Some choice =
               slice_get-get_or c.rest k.0 0 (omega (arith, k.1, own_len)) in
@@ -260,7 +204,7 @@ module _ (view : View) (a : Lettered) (b m first others : ℕ) (words : List Dbp
     others = λ j lt.
         let len = allowed_length sets cs c.leads.outer_allows in
         let j_in : j < length cs =
-        omega (arith, lt, len, sets_count view a b m first others words sets s is_own side) in
+        omega (arith, lt, len, sets_of_side view a b m first others words sets s is_own side) in
         let choice : ℕ = get_or cs j 0 in
         let at_c : slice_get cs j ≡ Some choice = slice_get-get_or cs j 0 j_in in
         (choice, g.parts j choice at_c, allowed_at sets cs j choice c.leads.outer_allows at_c);

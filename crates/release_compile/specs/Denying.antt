@@ -4,6 +4,8 @@ use Rattle.ilk_base.specs.declared.words.Dbpos.{Dbpos}
 use Rattle.ilk_base.specs.declared.words.Op.{Op}
 use Rattle.station_graph.specs.CentralRules.{Breaks, GapBreaks}
 use Rattle.decision_graphs.specs.Label.{AreAllowed}
+use Rattle.judge_pool.specs.declared.view.View.{View}
+use Rattle.judge_pool.specs.Graphs.{LabelSays}
 use Rattle.judge_pool.specs.Lettered.{Lettered}
 use Rattle.release_compile.specs.Allowed.{Within, GivesChoices}
 use Rattle.release_compile.specs.declared.search.Found.{Found}
@@ -15,6 +17,10 @@ IsGapFree a b words sets op = (v : List Bool) → Within a b words sets v → Ga
 -- The operation breaks no rule in any allowed vector.
 abbrev pub IsFree : Lettered → ℕ → List Dbpos → List (List Bool) → Op → Type 0
 IsFree a b words sets op = (v : List Bool) → Within a b words sets v → Breaks a.diagram v op None
+
+-- In each allowed vector the first label holds of the switch, which says no rule of the view.
+abbrev pub SaysNoRule : View → Lettered → ℕ → ℕ → List Dbpos → List (List Bool) → Type 0
+SaysNoRule view a b m words sets = (v : List Bool) → Within a b words sets v → LabelSays view a.diagram m v 0
 
 -- The choices are allowed, and each vector that gives them is, and in it the operation breaks the rule that was found.
 pub record IsDenial (a : Lettered) (b m first others : ℕ) (words : List Dbpos) (sets : List (List Bool)) (op : Op)

@@ -1,5 +1,5 @@
 //! The first rule that an operation breaks in an allowed vector, view by view: the graphs of a view are walked when it
-//! is asked, and not before.
+//! is asked, and not before; and its outer graph only where the words of the bay leave a rule to be said.
 ghost use Rattle.std.specs.Prelude.{◌≡◌, suc, IfOk, MatchOption};
 ghost use Rattle.station_graph.specs.Diagram.{part_count};
 ghost use Rattle.double_points.specs.Words.{AreWords};
@@ -11,6 +11,7 @@ ghost use Rattle.judge_graphs.specs.Built.{AreViewGraphs};
 ghost use Rattle.judge_graphs.specs.BuiltView.{view_of};
 ghost use Rattle.release_compile.specs.Denying.{IsDenial, IsFree, IsGapFree};
 
+use crate::own_words::may_say;
 use crate::reached::marked;
 use crate::search::{Found, search_gap};
 use crate::sides::{Place, view_side};
@@ -47,6 +48,18 @@ fn find_in_gap(
     match op.direction {
         Direction::ToOff => Ok(None),
         Direction::ToOn => {
+            if !may_say(
+                alloc,
+                View::Gap,
+                station,
+                parts,
+                graphs,
+                own,
+                place,
+                op.switch,
+            )? {
+                return Ok(None);
+            }
             let marks = marked(alloc, graphs.outer.as_ref(), sets)?;
             let side = view_side(
                 alloc,
@@ -90,6 +103,18 @@ fn find_in_load(
 {
     let moved = station.switch(op.switch);
     if moved.kind != Kind::Disconnector {
+        return Ok(None);
+    }
+    if !may_say(
+        alloc,
+        View::Load,
+        station,
+        parts,
+        graphs,
+        own,
+        place,
+        op.switch,
+    )? {
         return Ok(None);
     }
     let marks = marked(alloc, graphs.outer.as_ref(), sets)?;

@@ -10,6 +10,7 @@ mod decide;
 mod denying;
 mod heard;
 mod judge;
+mod own_words;
 mod placing;
 mod reached;
 mod refusal;

@@ -44,7 +44,7 @@ fn allow_if(sets: &mut ChoiceSets, layer: u16, choice: u32, yes: bool)
 }
 
 // Allows the marked choices in the layer.
-fn allow_marked(sets: &mut ChoiceSets, layer: u16, marks: &[bool])
+pub(crate) fn allow_marked(sets: &mut ChoiceSets, layer: u16, marks: &[bool])
     requires layer { layer < length sets.old }
     requires marks { length marks.now ≡ length (set_at sets.old layer) }
     requires few { length marks.now < 2 ^ 32 }
@@ -209,7 +209,7 @@ fn allow_positions(inner: &mut ChoiceSets, layer: u16, word: Dbpos)
 }
 
 // Allows in the other layers of an inner graph the positions that agree with the words.
-fn allow_own(inner: &mut ChoiceSets, own: &Readings, first: u16, moved: u16, others: u16)
+pub(crate) fn allow_own(inner: &mut ChoiceSets, own: &Readings, first: u16, moved: u16, others: u16)
     requires count { length inner.old ≡ suc others }
     requires two { (i : ℕ) → i < others → length (set_at inner.old (suc i)) ≡ 2 }
     requires bare { (i c : ℕ) → IsSet (set_at inner.old (suc i)) c → ⊥ }

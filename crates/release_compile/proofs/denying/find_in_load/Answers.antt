@@ -6,7 +6,15 @@ use Rattle.release_compile.specs.declared.chain.Through.{Through}
 use Rattle.release_compile.specs.declared.search.Side.{Side}
 use Rattle.release_compile.proofs.DenyingLemmas.{load_denies}
 use Rattle.release_compile.proofs.VerdictLemmas.{load_free}
+use Rattle.release_compile.proofs.OwnLemmas.{load_says_none}
 use Rattle.release_compile.proofs.denying.find_in_load.Goals as goal
+
+pub returns-then-not-branch : goal.returns-then-not-branch
+returns-then-not-branch c =
+    let a : Lettered = lettered c.args.station.now c.args.parts.now in
+    let sets : List (List Bool) = c.args.sets.now in
+    load_says_none a c.args.place.bay.0 c.args.own.now sets c.args.op c.requires.free
+    (c.in_ok-may_say.ensures c.if-not-branch.true sets c.requires.sets)
 
 pub returns-in-Some : goal.returns-in-Some
 returns-in-Some c =

@@ -10,7 +10,8 @@ use Rattle.release_compile.specs.Allowed.{Within}
 use Rattle.release_compile.specs.Denying.{IsDenial, IsFree}
 use Rattle.release_compile.proofs.HeardLemmas.{allowed_index}
 use Rattle.release_compile.proofs.KnownLemmas.{decides_known}
-use Rattle.release_compile.proofs.VerdictLemmas.{allowed_length, allowed_at, length_sets}
+use Rattle.release_compile.proofs.VerdictLemmas.{allowed_length, allowed_at}
+use Rattle.release_compile.proofs.WithinLemmas.{length_sets}
 use Rattle.release_compile.proofs.heard.judge_heard.Goals as goal
 
 pub vector_of-requires-clause-outer : goal.vector_of-requires-clause-outer

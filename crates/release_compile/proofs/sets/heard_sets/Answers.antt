@@ -4,7 +4,8 @@ use Rattle.judge_pool.specs.Lettered.{lettered, index_count}
 use Rattle.judge_pool.specs.Graphs.{other_of}
 use Rattle.release_compile.specs.Summaries.{HeardAllows}
 use Rattle.judge_intake.proofs.OtherLemmas.{other_in}
-use Rattle.release_compile.proofs.VerdictLemmas.{sets_at, length_sets}
+use Rattle.release_compile.proofs.VerdictLemmas.{sets_at}
+use Rattle.release_compile.proofs.WithinLemmas.{length_sets}
 use Rattle.judge_intake.proofs.OuterLemmas.{other_not}
 use Rattle.release_compile.proofs.SetsLemmas.{filled_none, filled_more}
 use Rattle.release_compile.proofs.sets.heard_sets.Goals as goal

@@ -1,6 +1,7 @@
 use Rattle.std.proofs.Common.{suc, List, Bool, sym, ◌∙◌, subst, inl, inr, arith}
 use Rattle.decision_graphs.specs.Reaching.{IsSet, set_at}
-use Rattle.release_compile.proofs.VerdictLemmas.{sets_at, length_sets}
+use Rattle.release_compile.proofs.VerdictLemmas.{sets_at}
+use Rattle.release_compile.proofs.WithinLemmas.{length_sets}
 use Rattle.release_compile.proofs.SetsLemmas.{empty_none}
 use Rattle.release_compile.proofs.sets.side.Goals as goal
 
