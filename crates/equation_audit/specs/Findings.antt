@@ -13,7 +13,7 @@ use Rattle.equation_audit.specs.Positions.{placed, SharesPosition}
 use Rattle.equation_audit.specs.declared.finding.Loose.{Loose}
 use Rattle.equation_audit.specs.declared.finding.Finding.{Finding}
 use Rattle.equation_audit.specs.declared.tried.Tried.{Tried}
-use Rattle.equation_audit.specs.declared.tried.Tried.TheVariants.{Strict, Other}
+use Rattle.equation_audit.specs.declared.tried.Tried.TheVariants.{Strict, NotStrict}
 
 -- In this vector the equation releases what the rules forbid.
 pub record IsLooseIn (d : Diagram) (e : Equation) (rule : Rule) (v : List Bool) : Type 0 where
@@ -61,7 +61,7 @@ IsStrict d e = (u : List Bool) × IsStrictAt d e u
 -- not, with a vector of the station or none.
 abbrev pub TellsTried : Diagram → Equation → List Bool → Tried → Type 0
 TellsTried d e u (Strict v) = IsStrictAt d e v
-TellsTried d e u (Other o) = (¬ IsStrictAt d e u) × IfSome o (IsVector d)
+TellsTried d e u (NotStrict o) = (¬ IsStrictAt d e u) × IfSome o (IsVector d)
 
 -- The equation is the same as the rules: neither loose nor strict.
 pub record IsSame (d : Diagram) (e : Equation) : Type 0 where

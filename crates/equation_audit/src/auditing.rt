@@ -89,7 +89,7 @@ fn find_strict<J: Judge>(
             Tried::Strict(vector) => {
                 return Ok(Some(vector));
             }
-            Tried::Other(next) => {
+            Tried::NotStrict(next) => {
                 denial = next;
             }
         }

@@ -18,7 +18,7 @@ use std::alloc::Global;
 #[derive(Drop)]
 pub(crate) enum Tried {
     Strict(Vector),
-    Other(Option<Vector>),
+    NotStrict(Option<Vector>),
 }
 
 // A vector that shows the operation denied in the position of this number: that of an earlier denial with the own
@@ -67,14 +67,14 @@ pub(crate) fn try_position<J: Judge>(
 {
     let vector = position(alloc, station, own, number)?;
     if block.is_released(&vector) {
-        return Ok(Tried::Other(denial));
+        return Ok(Tried::NotStrict(denial));
     }
     let again = denied_again(alloc, station, block.op, own, number, denial)?;
     if let Some(reading) = again {
-        return Ok(Tried::Other(Some(reading)));
+        return Ok(Tried::NotStrict(Some(reading)));
     }
     match block.ask(alloc, station, &vector, judge)? {
         Verdict::Release => Ok(Tried::Strict(vector)),
-        Verdict::Denied { rule: _, reading } => Ok(Tried::Other(Some(reading))),
+        Verdict::Denied { rule: _, reading } => Ok(Tried::NotStrict(Some(reading))),
     }
 }

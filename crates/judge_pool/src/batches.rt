@@ -131,7 +131,6 @@ impl Pool {
     ) -> Result<usize, Memory>
         requires pool { IsPool self.old }
         requires letters { slice_get (letter_lists self.old) batch.letters ≡ Some letters.now }
-        requires some { 0 < length letters.now }
         requires fit { LettersFit self.old batch letters.now }
         requires shared { IfSome shared.now (λ s. SelectsAll self.old batch letters.now s.value) }
         ensures grew { OnOk result (GrewTo self.old self.new) }
@@ -154,7 +153,6 @@ impl Pool {
         shared: &Option<Box<Selection>>,
     ) -> Result<(), Memory>
         requires pool { IsPool self.old }
-        requires some { 0 < length letters.now }
         requires fit { LettersFit self.old batch letters.now }
         requires shared { IfSome shared.now (λ s. SelectsAll self.old batch letters.now s.value) }
         ensures grew { OnOk result (GrewTo self.old self.new) }
