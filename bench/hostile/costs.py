@@ -23,8 +23,8 @@ status is 1 where one is over.
 - equations: a block of twelve switches for each operation of up to 63 feeders, so that each has 4,096 positions, with
   switches near its own, far from it, the same for all, or any; and of a grid
 - floods: a million frames, ticks, commands, readings or changes of the record to one node; 8 MiB of commands that a
-  node of a grid decides, with nothing heard or after a grant; 3,000 lines to a stored one, whose changes go to the disk;
-  a log of 20,000 records in which 64 bays send one another messages
+  node of a grid decides, with nothing heard or after a grant, also of a switch that may always be closed; 3,000 lines to
+  a stored one, whose changes go to the disk; a log of 20,000 records in which 64 bays send one another messages
 """
 import pathlib
 import random
