@@ -288,7 +288,17 @@ impl Graph {
             → (slice_index_or v.items j false ≡ true) ↔ DependsOn self.now j) }
     {
         let reduced = self.reduce_by(alloc, folds)?;
-        let depended = layers_depended(alloc, &reduced.layout())?;
+        let depended = reduced.reduced_dependencies(alloc)?;
         Ok(depended)
+    }
+
+    /// The same of a graph that is reduced. Linear in edges, with a byte for each node and label.
+    pub fn reduced_dependencies(&self, alloc: Global) -> Result<Vec<bool>, Memory>
+        requires { AreReduced self.now.layers }
+        ensures count { IfOk result (λ v. length v.items ≡ length self.now.layers) }
+        ensures exact { IfOk result (λ v. (j : ℕ) → j < length self.now.layers
+            → (slice_index_or v.items j false ≡ true) ↔ DependsOn self.now j) }
+    {
+        layers_depended(alloc, &self.layout())
     }
 }

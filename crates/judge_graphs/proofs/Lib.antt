@@ -19,3 +19,4 @@ pub mod PartnerPlacing
 pub mod PartnerTelling
 pub mod PartnerAnswers
 pub mod PartnerLemmas
+pub mod MergedLemmas

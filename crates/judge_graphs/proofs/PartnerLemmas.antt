@@ -12,7 +12,7 @@ use Rattle.judge_pool.specs.declared.view.View.TheVariants.{Gap, Load}
 use Rattle.judge_pool.specs.Lettered.{Lettered, AreLettered}
 use Rattle.judge_pool.specs.Graphs.{other_of, PartChosen, LabelSays}
 use Rattle.judge_intake.specs.Coding.{labels_of}
-use Rattle.judge_graphs.specs.Built.{ViewOf, AreViewGraphs, AreTold}
+use Rattle.judge_graphs.specs.Built.{ViewOf, AreUnmerged, AreTold}
 use Rattle.judge_graphs.specs.PartnerLabels.{IsInnerOf, AreInnersOf, TellsOf}
 use Rattle.judge_intake.proofs.OtherLemmas.{element, length_after}
 use Rattle.judge_graphs.proofs.PartnerChoices.{count_choices}
@@ -77,9 +77,9 @@ module _ (d : Diagram) (c first count : ℕ) (those : AreSwitchesOf d c first co
 
 -- ---- the graphs of a bay are such views
 
-module _ (view : View) (a : Lettered) (c first count : ℕ) (g : ViewOf)
-    (graphs : AreViewGraphs view a c first count g) where
-  inner_of : (i : ℕ) (x : Layered) → slice_get g.inner i ≡ Some x → IsInnerOf g.outer.labels x
+module _ (view : View) (a : Lettered) (c first count : ℕ) (outer : Layered) (inners : List Layered)
+    (graphs : AreUnmerged view a c first count outer inners) where
+  inner_of : (i : ℕ) (x : Layered) → slice_get inners i ≡ Some x → IsInnerOf outer.labels x
   inner_of i x at =
       let e = graphs.inner.each i x at in
       record {
@@ -89,10 +89,10 @@ module _ (view : View) (a : Lettered) (c first count : ℕ) (g : ViewOf)
         outer = e.graph.outer ∙ graphs.outer.labels;
       }
 
-  pub inners_of : AreInnersOf g.outer.labels g.inner
+  pub inners_of : AreInnersOf outer.labels inners
   inners_of i x at = inner_of i x at
 
-  judged : IsJudged a.diagram first count (labels_of view) (PartChosen a c) (LabelSays view a.diagram) g.outer g.inner
+  judged : IsJudged a.diagram first count (labels_of view) (PartChosen a c) (LabelSays view a.diagram) outer inners
   judged = record {
     fits = graphs.outer.fits;
     inner_count = graphs.inner.len;
@@ -103,22 +103,22 @@ module _ (view : View) (a : Lettered) (c first count : ℕ) (g : ViewOf)
     few = λ i x at. omega (arith, (graphs.inner.each i x at).labels);
     says = λ i x v cs ds at whole fit chosen fit_ds own.
         let e = graphs.inner.each i x at in
-        let named = graphs.outer.named v cs whole (count_choices g.outer.layers cs fit) chosen in
-        e.graph.says v (label_of g.outer cs) ds whole named
+        let named = graphs.outer.named v cs whole (count_choices outer.layers cs fit) chosen in
+        e.graph.says v (label_of outer cs) ds whole named
         (count_choices (drop 1 x.layers) ds fit_ds ∙ length_after e.others x.layers e.graph.count) own;
   }
 
   pub view_is : AreLettered a →
-      IsView a.diagram c first count (labels_of view) (PartChosen a c) (LabelSays view a.diagram) g.outer g.inner
+      IsView a.diagram c first count (labels_of view) (PartChosen a c) (LabelSays view a.diagram) outer inners
   view_is are = record {
     judged = judged;
-    placing = parts_placing a c g.outer.layers are graphs.outer.count graphs.outer.choices;
+    placing = parts_placing a c outer.layers are graphs.outer.count graphs.outer.choices;
   }
 
 -- WHAT THE GRAPHS OF A BAY TELL is which other parts are its partners
 pub are_told : (a : Lettered) (b first count : ℕ) (gap load : ViewOf) (told : List Bool) → AreLettered a →
-    AreSwitchesOf a.diagram b first count → AreViewGraphs Gap a b first count gap →
-    AreViewGraphs Load a b first count load
+    AreSwitchesOf a.diagram b first count → AreUnmerged Gap a b first count gap.outer gap.inner →
+    AreUnmerged Load a b first count load.outer load.inner
     → length told ≡ length gap.outer.layers
     → ((j : ℕ) → j < length gap.outer.layers → (get_or told j false ≡ true) ↔
     (TellsOf gap.outer gap.inner j ⊎ TellsOf load.outer load.inner j))
@@ -128,7 +128,7 @@ are_told a b first count gap load told are those gaps loads len tells = record {
   each = λ j lt.
       let in_gap : j < length gap.outer.layers = omega (arith, lt, len) in
       told_exactly a.diagram b first count those (PartChosen a b) (PartChosen a b)
-      gap.outer gap.inner (view_is Gap a b first count gap gaps are)
-      load.outer load.inner (view_is Load a b first count load loads are)
+      gap.outer gap.inner (view_is Gap a b first count gap.outer gap.inner gaps are)
+      load.outer load.inner (view_is Load a b first count load.outer load.inner loads are)
       j in_gap (omega (arith, in_gap, gaps.outer.count, loads.outer.count)) (get_or told j false) (tells j in_gap);
 }

@@ -12,11 +12,14 @@ use Rattle.judge_pool.specs.Lettered.{Lettered}
 use Rattle.judge_pool.specs.Graphs.{other_of, IsOuter, IsInner}
 use Rattle.judge_intake.specs.Coding.{labels_of}
 use Rattle.judge_pool.specs.Counted.{OuterIsSmall, InnerIsSmall}
+use Rattle.judge_graphs.specs.PartnerLabels.{IsMerged}
 
--- The graphs of one view of a bay: the outer one, and an inner one for each of its switches.
+-- The graphs of one view of a bay: the outer one, an inner one for each of its switches, and the outer one in which the
+-- labels are one that no inner one tells apart.
 pub record ViewOf : Type 0 where
   pub outer : Layered
   pub inner : List Layered
+  pub merged : Layered
 
 -- The graphs of a bay, with its first switch, how many it has, and for each other part whether it is a partner.
 pub record BayOf : Type 0 where
@@ -42,14 +45,19 @@ pub record AreInner (view : View) (a : Lettered) (b first count : ℕ) (names : 
   pub len : length graphs ≡ n
   pub each : (i : ℕ) (g : Layered) → slice_get graphs i ≡ Some g → IsInnerAt view a b first count names i g
 
--- The graphs of one view of a bay: the labels of the outer one name the views of the other parts, and those of the
--- inner ones say what holds of a switch.
-pub record AreViewGraphs (view : View) (a : Lettered) (b first count : ℕ) (g : ViewOf) : Type 0 where
+-- An outer graph and the inner ones of a bay, in one view: the labels of the outer one name the views of the other parts,
+-- and those of the inner ones say what holds of a switch.
+pub record AreUnmerged (view : View) (a : Lettered) (b first count : ℕ) (g : Layered) (inners : List Layered) : Type 0 where
   pub names : List Answers
-  pub outer : IsOuter view a b g.outer names
-  pub outer_reduced : AreReduced g.outer.layers
-  pub outer_small : OuterIsSmall view a.diagram b g.outer
-  pub inner : AreInner view a b first count names g.inner count
+  pub outer : IsOuter view a b g names
+  pub outer_reduced : AreReduced g.layers
+  pub outer_small : OuterIsSmall view a.diagram b g
+  pub inner : AreInner view a b first count names inners count
+
+-- The graphs of one view of a bay: such graphs, and the outer one with labels made one.
+pub record AreViewGraphs (view : View) (a : Lettered) (b first count : ℕ) (g : ViewOf) : Type 0 where
+  pub unmerged : AreUnmerged view a b first count g.outer g.inner
+  pub merged : IsMerged g.outer g.inner g.merged
 
 -- For each other part, in document order, whether it is a partner of the bay.
 pub record AreTold (d : Diagram) (b : ℕ) (told : List Bool) : Type 0 where

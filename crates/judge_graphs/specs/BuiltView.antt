@@ -6,7 +6,7 @@ use Rattle.judge_graphs.specs.Built.{ViewOf, BayOf}
 
 -- The graphs of one view, as a contract sees them.
 abbrev pub view_of : ViewGraphs → ViewOf
-view_of g = record { outer = g.outer.value; inner = g.inner.items }
+view_of g = record { outer = g.outer.value; inner = g.inner.items; merged = g.merged.value }
 
 -- The graphs of a bay, as a contract sees them.
 abbrev pub seen_bay : BayGraphs → BayOf

@@ -6,3 +6,4 @@ pub mod PartnerNames
 pub mod Built
 pub mod BuiltView
 pub mod Telling
+pub mod Through

@@ -44,6 +44,15 @@ pub record IsRenamed (outer : Layered) (names : List ℕ) (copy : Layered) : Typ
   pub label : 0 < length outer.layers → (cs : List ℕ) → AreChoices outer.layers cs →
       label_of copy cs ≡ slice_index names (label_of outer cs)
 
+-- The outer graph with each label replaced by the least label that no inner graph tells apart from it, reduced.
+pub record IsMerged (outer : Layered) (inners : List Layered) (merged : Layered) : Type 0 where
+  pub names : List ℕ
+  pub least : AreLeastLabels inners outer.labels names
+  pub renamed : IsRenamed outer names merged
+  pub labels : merged.labels ≡ outer.labels
+  pub reduced : AreReduced merged.layers
+  pub fits : AreLayers merged.labels merged.layers
+
 -- The graphs tell of a layer of the outer graph: two lists of choices of it agree in every layer but this one, and some
 -- inner graph leads the labels to which they lead, with the same other choices, to different labels.
 pub record TellsOf (outer : Layered) (inners : List Layered) (layer : ℕ) : Type 0 where

@@ -1,5 +1,5 @@
 //! The graphs of a bay are made.
-ghost use Rattle.std.specs.Prelude.{◌≡◌, ◌+◌, ◌<◌, ◌≤◌, ◌↔◌, ℕ, suc, length, map, IfOk, IfErr, OnOk};
+ghost use Rattle.std.specs.Prelude.{◌≡◌, ◌+◌, ◌<◌, ◌≤◌, ◌↔◌, ℕ, suc, length, map, Some, IfOk, IfErr, OnOk};
 ghost use Rattle.station_graph.specs.Diagram.{part_count};
 ghost use Rattle.contraction.specs.Renaming.{mapped};
 ghost use Rattle.part_alphabets.specs.PartAlphabets.{Alphabets};
@@ -11,21 +11,21 @@ ghost use Rattle.judge_intake.specs.SharedNodes.{IsSharing};
 ghost use Rattle.judge_intake.specs.Inputs.{AreNames, IsBayIntake};
 ghost use Rattle.judge_intake.specs.OwnBays.{IsOwnBay};
 ghost use Rattle.judge_pool.specs.Places.{node_listed, pool_on};
-ghost use Rattle.judge_graphs.specs.Built.{AreInner, AreViewGraphs, AreBayGraphs};
+ghost use Rattle.judge_graphs.specs.Built.{AreInner, AreUnmerged, AreBayGraphs};
 ghost use Rattle.judge_pool.specs.Counted.{SwitchesHave, ViewHas, BayHas, Spends, Passes};
 ghost use Rattle.judge_graphs.specs.Stocking.{IsStock};
 ghost use Rattle.judge_graphs.specs.Labelling.{AreInnerNotes};
-ghost use Rattle.judge_graphs.specs.Telling.{IsToldBy, HaveTold};
+ghost use Rattle.judge_graphs.specs.Telling.{HasMerged, HaveMerged};
 ghost use Rattle.judge_pool.specs.declared.view.View.TheVariants.{Gap, Load};
 ghost use Rattle.judge_pool.specs.declared.layer.Trouble.TheVariants.{Wide};
-ghost use Rattle.judge_graphs.specs.BuiltView.{view_of, seen_bay};
+ghost use Rattle.judge_graphs.specs.BuiltView.{seen_bay};
 ghost use Rattle.judge_pool.specs.declared.limits.TheConstants.{BAY_EDGES};
 
-use crate::graphs::{BayGraphs, ViewGraphs};
+use crate::graphs::{BayGraphs, Unmerged};
 use crate::inner::inner_graph;
 use crate::labelled::InnerNotes;
 use crate::outer::outer_graph;
-use crate::partners::told_like;
+use crate::partners::merge_both;
 use crate::stock::Stock;
 use bay_contract::Parts;
 use decision_graphs::{Folds, Graph};
@@ -45,7 +45,7 @@ struct Inners {
 // The graphs of one view, and how many edges are left.
 #[derive(Drop)]
 struct Viewed {
-    graphs: ViewGraphs,
+    graphs: Unmerged,
     left: usize,
 }
 
@@ -154,8 +154,8 @@ fn view_graphs(
     requires own { IsOwnBay station.now own.now }
     requires left { left ≤ BAY_EDGES }
     ensures stock { OnOk result (IsStock (lettered station.now parts.now) view stock.new) }
-    ensures graphs { IfOk result (λ r. AreViewGraphs view (lettered station.now parts.now) own.now.bay.0
-        own.now.first own.now.count (view_of r.graphs)) }
+    ensures graphs { IfOk result (λ r. AreUnmerged view (lettered station.now parts.now) own.now.bay.0
+        own.now.first own.now.count r.graphs.outer.value r.graphs.inner.items) }
     ensures wide { IfErr result (λ e. e ≡ Wide →
         Passes (ViewHas view station.now own.now.bay.0 own.now.first own.now.count) station.now left) }
     ensures spent { IfOk result (λ r. Spends (ViewHas view station.now own.now.bay.0 own.now.first own.now.count)
@@ -188,7 +188,7 @@ fn view_graphs(
         outer.left,
     )?;
     Ok(Viewed {
-        graphs: ViewGraphs {
+        graphs: Unmerged {
             outer: outer.graph,
             inner: inners.graphs,
         },
@@ -212,13 +212,13 @@ pub fn bay_graphs(
     requires lettered { AreAlphabets station.now parts.now }
     requires gap { IsStock (lettered station.now parts.now) Gap gap_stock.old }
     requires load { IsStock (lettered station.now parts.now) Load load_stock.old }
-    requires bays { HaveTold bays.now }
+    requires bays { HaveMerged bays.now }
     requires sharing { IsSharing station.now sharing.now }
     requires bay { bay.0 < part_count station.now }
     requires left { left ≤ BAY_EDGES }
     ensures gap { OnOk result (IsStock (lettered station.now parts.now) Gap gap_stock.new) }
     ensures load { OnOk result (IsStock (lettered station.now parts.now) Load load_stock.new) }
-    ensures told { IfOk result (λ r. IsToldBy (view_of r.graphs.gap) (view_of r.graphs.load) r.graphs.told.items) }
+    ensures merged { IfOk result (λ r. HasMerged (Some r.graphs)) }
     ensures graphs { IfOk result (λ r. AreBayGraphs (lettered station.now parts.now) bay.0 (seen_bay r.graphs)) }
     ensures wide { IfErr result (λ e. e ≡ Wide → Passes (BayHas station.now bay.0) station.now left) }
     ensures spent { IfOk result (λ r. Spends (BayHas station.now bay.0) station.now left r.left) }
@@ -246,21 +246,21 @@ pub fn bay_graphs(
         &own,
         gap.left,
     )?;
-    let told = told_like(
+    let both = merge_both(
         alloc,
         &mut gap_stock.folds,
         &mut load_stock.folds,
         bays,
-        &gap.graphs,
-        &load.graphs,
+        gap.graphs,
+        load.graphs,
     )?;
     Ok(Bay {
         graphs: BayGraphs {
             first: own.first,
             count: own.count,
-            gap: gap.graphs,
-            load: load.graphs,
-            told,
+            gap: both.gap,
+            load: both.load,
+            told: both.told,
         },
         left: load.left,
     })

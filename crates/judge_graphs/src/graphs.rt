@@ -9,6 +9,15 @@ pub struct ViewGraphs {
     pub outer: Rc<Graph>,
     /// an inner one for each of its switches
     pub inner: Vec<Graph>,
+    /// the outer one in which labels are one that no inner one tells apart, reduced
+    pub merged: Rc<Graph>,
+}
+
+// The graphs of one view of a bay, before labels of the outer one are made one.
+#[derive(Drop)]
+pub(crate) struct Unmerged {
+    pub(crate) outer: Rc<Graph>,
+    pub(crate) inner: Vec<Graph>,
 }
 
 /// The graphs of a bay.

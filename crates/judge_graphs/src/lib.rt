@@ -1,5 +1,5 @@
-//! The decision graphs of a bay: an outer and inner ones for each of the two views, made over all vectors at once, and
-//! which other parts they tell of.
+//! The decision graphs of a bay: an outer and inner ones for each of the two views, made over all vectors at once, the
+//! outer ones with the labels made one that no inner one tells apart, and which other parts they tell of.
 #![tactic(auto)]
 
 mod bay;
@@ -7,7 +7,7 @@ mod graphs;
 mod inner;
 mod label_names;
 mod labelled;
-mod layers_told;
+mod merged;
 mod noted;
 mod outer;
 mod partners;

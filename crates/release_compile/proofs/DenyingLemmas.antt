@@ -48,7 +48,7 @@ module _ (a : Lettered) (b m first others : ℕ) (words : List Dbpos) (sets : Li
         count = fits.1;
         small =
             chain_small s sets goal cs all chain
-            (two_choices view a b m first others side.names s.inner.now s.inner_sets side.inner_is side.ready.inner_fits);
+            (two_choices view a b m first others s.outer.now s.inner.now s.inner_sets side.inner_is side.ready.inner_fits);
         denies = λ v g.
             let within = within_of view a b m first others words sets s own side goal cs all v chain g in (
               within,

@@ -14,10 +14,12 @@ use Rattle.judge_pool.specs.declared.view.View.{View}
 use Rattle.release_compile.specs.declared.search.Side.{Side}
 use Rattle.judge_pool.specs.Lettered.{Lettered, index_count}
 use Rattle.release_compile.specs.Chaining.{AreInARow, IsReady}
-use Rattle.judge_pool.specs.Graphs.{other_of, IsOuter, IsInner, IsOwn}
+use Rattle.judge_pool.specs.Graphs.{other_of, IsInner, IsOwn}
 use Rattle.release_compile.specs.Allowed.{OwnAllowed, IsSide}
 use Rattle.judge_intake.specs.Coding.{labels_of}
 use Rattle.judge_graphs.specs.Built.{ViewOf, AreInner, AreViewGraphs}
+use Rattle.judge_graphs.specs.Through.{IsOfOthers, SaysThrough}
+use Rattle.judge_graphs.proofs.MergedLemmas.{merged_says}
 use Rattle.release_compile.proofs.VerdictLemmas.{set_in, sets_at}
 
 -- the inner graph of a switch of the bay
@@ -41,41 +43,65 @@ inner_of view a b m first others names graphs h are low at =
     }
 
 -- the inner graph that stands at the place of the switch
+listed_at : (view : View) (a : Lettered) (b m first others : ℕ) → IsOwn a.diagram b m first others →
+    (g : ViewOf) → AreViewGraphs view a b first (suc others) g → (i : ℕ) (h : Layered) → i ≡ m - first →
+    h ≡ get_or g.inner i h → slice_get g.inner (m - first) ≡ Some h
+listed_at view a b m first others own g gs i h place is =
+    let lt : i < length g.inner = omega (arith, place, own.from, own.below, gs.unmerged.inner.len) in
+    ap (slice_get g.inner) (sym place) ∙ (slice_get-get_or g.inner i h lt ∙ ap Some (sym is))
+
 pub inner_at : (view : View) (a : Lettered) (b m first others : ℕ) → IsOwn a.diagram b m first others →
     (g : ViewOf) (gs : AreViewGraphs view a b first (suc others) g) (i : ℕ) (h : Layered) → i ≡ m - first →
-    h ≡ get_or g.inner i h → HasInner view a b m first others gs.names h
+    h ≡ get_or g.inner i h → HasInner view a b m first others gs.unmerged.names h
 inner_at view a b m first others own g gs i h place is =
-    let lt : i < length g.inner = omega (arith, place, own.from, own.below, gs.inner.len) in
-    let at : slice_get g.inner (m - first) ≡ Some h =
-    ap (slice_get g.inner) (sym place) ∙ (slice_get-get_or g.inner i h lt ∙ ap Some (sym is)) in
-    inner_of view a b m first others gs.names g.inner h gs.inner own.from at
+    inner_of view a b m first others gs.unmerged.names g.inner h gs.unmerged.inner own.from
+    (listed_at view a b m first others own g gs i h place is)
+
+-- what it says behind the merged outer graph
+pub record SaysAt (view : View) (a : Lettered) (b m first others : ℕ) (g h : Layered) : Type 0 where
+  pub graph : SaysThrough view a b m first others g h
+  pub labels : h.labels ≡ labels_of view
+
+pub says_at : (view : View) (a : Lettered) (b m first others : ℕ) → IsOwn a.diagram b m first others →
+    (g : ViewOf) → AreViewGraphs view a b first (suc others) g → (i : ℕ) (h : Layered) → i ≡ m - first →
+    h ≡ get_or g.inner i h → SaysAt view a b m first others g.merged h
+says_at view a b m first others own g gs i h place is =
+    let at = listed_at view a b m first others own g gs i h place is in
+    let x = gs.unmerged.inner.each (m - first) h at in
+    let same : x.others ≡ others = omega (arith, x.one_more) in
+    let here : first + (m - first) ≡ m = omega (arith, own.from) in
+    record {
+      graph =
+          subst (λ n. SaysThrough view a b m first n g.merged h) same
+          (subst (λ k. SaysThrough view a b k first x.others g.merged h) here
+          (merged_says view a b first (suc others) g gs (m - first) h at x));
+      labels = x.labels;
+    }
 
 -- both in a row
-pub in_a_row : (view : View) (a : Lettered) (b m first others : ℕ) (names : List Answers) (g h : Layered) →
-    IsOuter view a b g names → IsInner view a b m first others names h → AreInARow g h
-in_a_row view a b m first others names g h o i = record {
-  some = omega (arith, i.count);
-  labels = i.outer ∙ o.labels;
-}
+pub in_a_row : (view : View) (a : Lettered) (b m first others : ℕ) (g h : Layered) →
+    SaysThrough view a b m first others g h → AreInARow g h
+in_a_row view a b m first others g h i = record { some = omega (arith, i.count); labels = i.first_choices }
 
 -- a side of these graphs
 pub side_is : (view : View) (a : Lettered) (b m first others : ℕ) (words : List Dbpos) (sets : List (List Bool))
-    (s : Side) (names : List Answers) (g h : Layered) → IsOuter view a b g names →
-    IsInner view a b m first others names h → s.outer.now ≡ g → s.inner.now ≡ h → IsReady s sets →
-    OwnAllowed first m others words s.inner_sets → IsSide view a b m first others words sets s
-side_is view a b m first others words sets s names g h o i same_g same_h ready own = record {
-  names = names;
-  outer_is = subst (λ x. IsOuter view a b x names) (sym same_g) o;
-  inner_is = subst (λ x. IsInner view a b m first others names x) (sym same_h) i;
+    (s : Side) (g h : Layered) → IsOfOthers a b g → SaysThrough view a b m first others g h → s.outer.now ≡ g →
+    s.inner.now ≡ h → IsReady s sets → OwnAllowed first m others words s.inner_sets →
+    IsSide view a b m first others words sets s
+side_is view a b m first others words sets s g h o i same_g same_h ready own = record {
+  outer_is = subst (λ x. IsOfOthers a b x) (sym same_g) o;
+  inner_is =
+      subst (λ x. SaysThrough view a b m first others x s.inner.now) (sym same_g)
+      (subst (λ x. SaysThrough view a b m first others g x) (sym same_h) i);
   ready = ready;
   own = own;
 }
 
 -- choices behind the first are two
-pub two_choices : (view : View) (a : Lettered) (b m first others : ℕ) (names : List Answers) (h : Layered)
-    (sets : List (List Bool)) → IsInner view a b m first others names h → AreSetsOf h.layers sets → (i c : ℕ) →
-    IsSet (set_at sets (suc i)) c → c < 2
-two_choices view a b m first others names h sets inner fits i c is =
+pub two_choices : (view : View) (a : Lettered) (b m first others : ℕ) (g h : Layered) (sets : List (List Bool)) →
+    SaysThrough view a b m first others g h → AreSetsOf h.layers sets → (i c : ℕ) → IsSet (set_at sets (suc i)) c →
+    c < 2
+two_choices view a b m first others g h sets inner fits i c is =
     let within = set_in (set_at sets (suc i)) c is in
     let len = sets_at h.layers sets (suc i) fits in
     elim (layer_cases i) [
@@ -108,10 +134,9 @@ choices_equal (l ∷ ls) (m ∷ ms) e same =
     ap (λ (k : ℕ). k ∷ map (λ (x : Layer). x.choices) ls) head ∙ ap (λ (ks : List ℕ). m.choices ∷ ks) rest
 
 -- the sets of one outer graph are those of the other
-pub other_sets : (v w : View) (a : Lettered) (b : ℕ) (names others' : List Answers) (g h : Layered)
-    (sets : List (List Bool)) → IsOuter v a b g names → IsOuter w a b h others' → AreSetsOf g.layers sets →
-    AreSetsOf h.layers sets
-other_sets v w a b names others' g h sets og oh are =
+pub other_sets : (a : Lettered) (b : ℕ) (g h : Layered) (sets : List (List Bool)) → IsOfOthers a b g →
+    IsOfOthers a b h → AreSetsOf g.layers sets → AreSetsOf h.layers sets
+other_sets a b g h sets og oh are =
     are
     ∙ choices_equal g.layers h.layers (omega (arith, og.count, oh.count))
     (λ j lt. og.choices j lt ∙ sym (oh.choices j (omega (arith, lt, og.count, oh.count))))
@@ -134,10 +159,9 @@ set_layer ls sets are j c is =
     none (l ∷ ks) (suc i) le = none ks i (omega (arith, le))
 
 -- an allowed index is one of the part's
-pub allowed_index : (view : View) (a : Lettered) (b : ℕ) (names : List Answers) (g : Layered)
-    (sets : List (List Bool)) → IsOuter view a b g names → AreSetsOf g.layers sets → (j c : ℕ) →
-    IsSet (set_at sets j) c → c < index_count a (other_of 0 b j)
-allowed_index view a b names g sets o are j c is =
+pub allowed_index : (a : Lettered) (b : ℕ) (g : Layered) (sets : List (List Bool)) → IsOfOthers a b g →
+    AreSetsOf g.layers sets → (j c : ℕ) → IsSet (set_at sets j) c → c < index_count a (other_of 0 b j)
+allowed_index a b g sets o are j c is =
     let within = set_in (set_at sets j) c is in
     let len = sets_at g.layers sets j are in
     let lt = set_layer g.layers sets are j c is in

@@ -3,13 +3,13 @@ use Rattle.std.proofs.Common.{◌≡◌, ℕ, ◌<◌, ◌⊎◌, zero, suc, Boo
 use Rattle.std.proofs.Common.{arith}
 use Rattle.ilk_base.specs.declared.words.Dbpos.{Dbpos}
 use Rattle.ilk_base.specs.declared.words.Op.{Op}
-use Rattle.contraction.specs.Answers.{Answers}
 use Rattle.judge_pool.specs.Lettered.{Lettered}
 use Rattle.decision_graphs.specs.Label.{Layered, layer_at, label_of, AreAllowed, Reaches}
 use Rattle.decision_graphs.specs.Reaching.{IsSet, set_at, AreSetsOf}
 use Rattle.judge_pool.specs.declared.view.View.{View}
 use Rattle.judge_pool.specs.declared.view.View.TheVariants.{Load}
-use Rattle.judge_pool.specs.Graphs.{LabelSays, IsOwn, IsOuter, IsInner}
+use Rattle.judge_pool.specs.Graphs.{LabelSays, IsOwn}
+use Rattle.judge_graphs.specs.Through.{IsOfOthers, SaysThrough}
 use Rattle.release_compile.specs.Allowed.{OwnAllowed}
 use Rattle.release_compile.specs.Denying.{IsGapFree, IsFree, SaysNoRule}
 use Rattle.release_compile.proofs.ChainLemmas.{label_in, split_sets}
@@ -21,8 +21,8 @@ zero_or_more (suc n) = inr (omega arith)
 
 -- NO RULE IS SAID where the words of the bay lead to no label that says one, with all labels of the outer graph allowed
 module _ (view : View) (a : Lettered) (b m first others : ℕ) (words : List Dbpos) (sets inner_sets : List (List Bool))
-    (names : List Answers) (outer inner : Layered) (is_own : IsOwn a.diagram b m first others)
-    (outer_is : IsOuter view a b outer names) (inner_is : IsInner view a b m first others names inner)
+    (outer inner : Layered) (is_own : IsOwn a.diagram b m first others) (outer_is : IsOfOthers a b outer)
+    (inner_is : SaysThrough view a b m first others outer inner)
     (fits : AreSetsOf outer.layers sets) (inner_fits : AreSetsOf inner.layers inner_sets)
     (own : OwnAllowed first m others words inner_sets)
     (all : (label : ℕ) → label < (layer_at inner.layers 0).choices → IsSet (set_at inner_sets 0) label)
@@ -30,12 +30,12 @@ module _ (view : View) (a : Lettered) (b m first others : ℕ) (words : List Dbp
   pub says_no_rule : SaysNoRule view a b m words sets
   says_no_rule v within =
       let w =
-      choices_within view a b m first others words sets inner_sets names outer inner is_own outer_is inner_is fits
+      choices_within view a b m first others words sets inner_sets outer inner is_own outer_is inner_is fits
       inner_fits own v within in
       let begins = label_of outer w.0 in
       let begins_in = label_in outer sets w.0 outer_is.fits fits w.2 in
       let is_all : IsSet (set_at inner_sets 0) begins =
-      all begins (omega (arith, begins_in, inner_is.outer, outer_is.labels)) in
+      all begins (omega (arith, begins_in, inner_is.first_choices)) in
       let split = split_sets inner.layers inner_sets (omega (arith, inner_is.count)) inner_fits in
       let allowed : AreAllowed inner_sets (begins ∷ w.1) =
       subst (λ xs. AreAllowed xs (begins ∷ w.1)) (sym split) (is_all, w.3) in

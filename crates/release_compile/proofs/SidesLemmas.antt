@@ -24,17 +24,17 @@ module _ (a : Lettered) (m : ℕ) (words : List Dbpos) (sets : List (List Bool))
       omega (arith, len, h.gap.outer_is.count, h.parts)
 
   pub sides_index : (j c : ℕ) → IsSet (set_at sets j) c → c < index_count a (other_of 0 s.place.bay.0 j)
-  sides_index = allowed_index Gap a s.place.bay.0 h.gap.names s.gap.outer.now sets h.gap.outer_is h.gap.ready.fits
+  sides_index = allowed_index a s.place.bay.0 s.gap.outer.now sets h.gap.outer_is h.gap.ready.fits
 
   -- a switch has two positions
   pub gap_small : (i c : ℕ) → IsSet (set_at s.gap.inner_sets (suc i)) c → c < 2
   gap_small =
-      two_choices Gap a s.place.bay.0 m s.place.first s.place.others h.gap.names s.gap.inner.now s.gap.inner_sets
+      two_choices Gap a s.place.bay.0 m s.place.first s.place.others s.gap.outer.now s.gap.inner.now s.gap.inner_sets
       h.gap.inner_is h.gap.ready.inner_fits
 
   pub load_small : (i c : ℕ) → IsSet (set_at s.load.inner_sets (suc i)) c → c < 2
   load_small =
-      two_choices Load a s.place.bay.0 m s.place.first s.place.others h.load.names s.load.inner.now s.load.inner_sets
+      two_choices Load a s.place.bay.0 m s.place.first s.place.others s.load.outer.now s.load.inner.now s.load.inner_sets
       h.load.inner_is h.load.ready.inner_fits
 
   -- what is found in them has a choice for each layer

@@ -39,12 +39,12 @@ module _ (view : View) (a : Lettered) (b m first others : ℕ) (words : List Dbp
     (is_own : IsOwn a.diagram b m first others) (side : IsSide view a b m first others words sets s) where
   sets_of_side : suc (length sets) ≡ part_count a.diagram
   sets_of_side =
-      sets_count view a b m first others words sets s.inner_sets side.names s.outer.now s.inner.now is_own side.outer_is
+      sets_count view a b m first others words sets s.inner_sets s.outer.now s.inner.now is_own side.outer_is
       side.inner_is side.ready.fits side.ready.inner_fits side.own
 
   own_of_side : length (drop 1 s.inner_sets) ≡ others
   own_of_side =
-      own_count view a b m first others words sets s.inner_sets side.names s.outer.now s.inner.now is_own side.outer_is
+      own_count view a b m first others words sets s.inner_sets s.outer.now s.inner.now is_own side.outer_is
       side.inner_is side.ready.fits side.ready.inner_fits side.own
 
   -- allowed choices lead to a label that says what holds in the vector
@@ -52,7 +52,7 @@ module _ (view : View) (a : Lettered) (b m first others : ℕ) (words : List Dbp
       × LeadThrough s.outer.now s.inner.now sets s.inner_sets label cs ds × LabelSays view a.diagram m v label
   says_within v within =
       let w =
-      choices_within view a b m first others words sets s.inner_sets side.names s.outer.now s.inner.now is_own
+      choices_within view a b m first others words sets s.inner_sets s.outer.now s.inner.now is_own
       side.outer_is side.inner_is side.ready.fits side.ready.inner_fits side.own v within in (
         label_of s.inner.now (label_of s.outer.now w.0 ∷ w.1),
         w.0,
@@ -67,9 +67,8 @@ module _ (view : View) (a : Lettered) (b m first others : ℕ) (words : List Dbp
       LabelSays view a.diagram m v goal
   says_chain goal cs all c v whole chosen own =
       let len = allowed_length sets cs c.leads.outer_allows ∙ length_sets s.outer.now.layers sets side.ready.fits in
-      let named = side.outer_is.named v cs whole len chosen in
       let rest : drop 1 all ≡ c.rest = ap (drop 1) c.split in
-      let says = side.inner_is.says v (label_of s.outer.now cs) c.rest whole named
+      let says = side.inner_is.says v cs c.rest whole len chosen
       (allowed_length (drop 1 s.inner_sets) c.rest c.leads.inner_allows ∙ own_of_side)
       (subst (λ ds. AreChosen (SwitchChosen first m) v ds) rest own) in
       subst (λ l. LabelSays view a.diagram m v l) c.leads.led says

@@ -9,12 +9,12 @@ use Rattle.double_points.specs.Words.{Agrees}
 use Rattle.station_graph.specs.Diagram.{part_count}
 use Rattle.station_graph.specs.Connection.{a_switch}
 use Rattle.station_graph.specs.Sharing.{OfPart}
-use Rattle.contraction.specs.Answers.{Answers}
 use Rattle.judge_pool.specs.Lettered.{Lettered}
 use Rattle.decision_graphs.specs.Label.{Layer, Layered, label_of, AreAllowed}
 use Rattle.decision_graphs.specs.Reaching.{IsSet, set_at, AreSetsOf}
 use Rattle.judge_pool.specs.declared.view.View.{View}
-use Rattle.judge_pool.specs.Graphs.{other_of, PartChosen, SwitchChosen, LabelSays, IsOwn, IsOuter, IsInner}
+use Rattle.judge_pool.specs.Graphs.{other_of, PartChosen, SwitchChosen, LabelSays, IsOwn}
+use Rattle.judge_graphs.specs.Through.{IsOfOthers, SaysThrough}
 use Rattle.release_compile.specs.Allowed.{Within, OwnAllowed}
 use Rattle.judge_intake.proofs.OtherLemmas.{other_in, code, code_back, code_small, element, length_after}
 
@@ -41,8 +41,8 @@ set_after [] i = refl
 set_after (s ∷ ss) i = refl
 
 module _ (view : View) (a : Lettered) (b m first others : ℕ) (words : List Dbpos) (sets inner_sets : List (List Bool))
-    (names : List Answers) (outer inner : Layered) (is_own : IsOwn a.diagram b m first others)
-    (outer_is : IsOuter view a b outer names) (inner_is : IsInner view a b m first others names inner)
+    (outer inner : Layered) (is_own : IsOwn a.diagram b m first others) (outer_is : IsOfOthers a b outer)
+    (inner_is : SaysThrough view a b m first others outer inner)
     (fits : AreSetsOf outer.layers sets) (inner_fits : AreSetsOf inner.layers inner_sets)
     (own : OwnAllowed first m others words inner_sets) where
   pub sets_count : suc (length sets) ≡ part_count a.diagram
@@ -87,5 +87,5 @@ module _ (view : View) (a : Lettered) (b m first others : ℕ) (words : List Dbp
     choices_within =
         let o = outer_choices in
         let w = own_choices in
-        let named = outer_is.named v o.0 within.whole (o.1 ∙ length_sets outer.layers sets fits) o.2 in
-        (o.0, w.0, o.3, w.3, inner_is.says v (label_of outer o.0) w.0 within.whole named (w.1 ∙ own_count) w.2)
+        let len = o.1 ∙ length_sets outer.layers sets fits in
+        (o.0, w.0, o.3, w.3, inner_is.says v o.0 w.0 within.whole len o.2 (w.1 ∙ own_count) w.2)

@@ -4,13 +4,13 @@ use Rattle.ilk_base.specs.declared.words.Dbpos.{Dbpos}
 use Rattle.double_points.specs.Words.{Agrees, BayAgrees}
 use Rattle.station_graph.specs.Diagram.{part_count}
 use Rattle.station_graph.specs.Alike.{IsVector}
-use Rattle.contraction.specs.Answers.{Answers}
 use Rattle.decision_graphs.specs.Reaching.{IsSet, set_at}
 use Rattle.judge_pool.specs.declared.view.View.{View}
 use Rattle.release_compile.specs.declared.search.Side.{Side}
 use Rattle.judge_pool.specs.Lettered.{Lettered}
 use Rattle.judge_pool.specs.Folding.{AreChosen}
-use Rattle.judge_pool.specs.Graphs.{other_of, PartChosen, SwitchChosen, IsOuter, IsInner}
+use Rattle.judge_pool.specs.Graphs.{other_of, PartChosen, SwitchChosen}
+use Rattle.judge_graphs.specs.Through.{IsOfOthers, SaysThrough}
 use Rattle.release_compile.specs.Chaining.{IsReady}
 
 -- The vectors that are allowed: the bay's switches agree with its words, and each other part has an allowed index.
@@ -28,9 +28,8 @@ OwnAllowed first m others words sets =
 -- The graphs of one view of switch m, ready for these sets of the other parts and these words of the bay.
 pub record IsSide (view : View) (a : Lettered) (b m first others : ℕ) (words : List Dbpos) (sets : List (List Bool))
     (s : Side) : Type 0 where
-  pub names : List Answers
-  pub outer_is : IsOuter view a b s.outer.now names
-  pub inner_is : IsInner view a b m first others names s.inner.now
+  pub outer_is : IsOfOthers a b s.outer.now
+  pub inner_is : SaysThrough view a b m first others s.outer.now s.inner.now
   pub ready : IsReady s sets
   pub own : OwnAllowed first m others words s.inner_sets
 

@@ -37,8 +37,8 @@ abbrev pub no_bay : BayOf
 no_bay = record {
   first = 0;
   count = 0;
-  gap = record { outer = no_graph; inner = [] };
-  load = record { outer = no_graph; inner = [] };
+  gap = record { outer = no_graph; inner = []; merged = no_graph };
+  load = record { outer = no_graph; inner = []; merged = no_graph };
   told = [];
 }
 

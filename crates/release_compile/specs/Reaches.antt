@@ -13,7 +13,7 @@ use Rattle.release_compile.specs.Summaries.{ArePossibleSets}
 -- What the outer graphs of its bay reach by the words.
 pub record IsReachOf (j : Judging) (words : List Dbpos) (r : BayReach) : Type 0 where
   pub sets : ArePossibleSets (ground j) r.bay.0 words r.reached.sets
-  pub reached : HasReached (bay_at j r.bay.0).gap.outer (bay_at j r.bay.0).load.outer r.reached
+  pub reached : HasReached (bay_at j r.bay.0).gap.merged (bay_at j r.bay.0).load.merged r.reached
 
 -- The verdicts of both operations of a switch, where the words of all switches are known.
 pub record AreVerdictsOf (d : Diagram) (words : List Dbpos) (switch : ℕ) (s : SwitchVerdicts) : Type 0 where

@@ -8,7 +8,7 @@ ghost use Rattle.judge_pool.specs.declared.layer.Trouble.TheVariants.{Wide as Is
 ghost use Rattle.judge_pool.specs.Lettered.{lettered};
 ghost use Rattle.judge_intake.specs.SharedNodes.{IsSharing};
 ghost use Rattle.judge_graphs.specs.Stocking.{IsStock};
-ghost use Rattle.judge_graphs.specs.Telling.{HasTold, HaveTold};
+ghost use Rattle.judge_graphs.specs.Telling.{HasMerged, HaveMerged};
 ghost use Rattle.judge_pool.specs.declared.view.View.TheVariants.{Gap, Load};
 ghost use Rattle.judge_pool.specs.Counted.{BayHas, Passes};
 ghost use Rattle.judge_graphs.specs.Built.{AreBays, AreGraphsOf};
@@ -56,13 +56,13 @@ fn part_graphs(
     requires lettered { AreAlphabets station.now parts.now }
     requires gap { IsStock (lettered station.now parts.now) Gap gap.old }
     requires load { IsStock (lettered station.now parts.now) Load load.old }
-    requires bays { HaveTold bays.now }
+    requires bays { HaveMerged bays.now }
     requires sharing { IsSharing station.now sharing.now }
     requires bay { bay.0 < part_count station.now }
     requires left { left ≤ BAY }
     ensures gap { OnOk result (IsStock (lettered station.now parts.now) Gap gap.new) }
     ensures load { OnOk result (IsStock (lettered station.now parts.now) Load load.new) }
-    ensures told { IfOk result (λ r. HasTold r.graphs) }
+    ensures told { IfOk result (λ r. HasMerged r.graphs) }
     ensures graphs { IfOk result (λ r. AreGraphsOf (lettered station.now parts.now) bay.0 (seen_part r.graphs)) }
     ensures wide { IfErr result (λ e. e ≡ IsWide →
         IsBay station.now bay.0 × Passes (BayHas station.now bay.0) station.now left) }

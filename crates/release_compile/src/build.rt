@@ -61,7 +61,8 @@ fn alphabets(alloc: Global, station: &Station) -> Result<Parts, BuildRefusal>
 /// the alphabets of its parts. For each bay an outer gap graph and an outer load graph lead from the
 /// indices of the other parts to labels that name their views; for each switch an inner gap graph and an
 /// inner load graph lead from such a label and the positions of the bay's other switches to what the rules
-/// say of the switch. Contracts see it as its diagram, alphabets and graphs.
+/// say of the switch. Verdicts go by the outer graphs in which the labels are one that no inner graph of the bay
+/// tells apart, and which are much smaller. Contracts see it as its diagram, alphabets and graphs.
 #[derive(Drop)]
 pub struct GraphJudge<'a> {
     station: &'a Station,

@@ -40,14 +40,14 @@ pub(crate) fn reach_words(
     requires bay { bay.0 < part_count station.now }
     requires all { AreAllWords (lettered station.now parts.now) all.now }
     ensures sets { IfOk result (λ r. ArePossibleSets (lettered station.now parts.now) bay.0 all.now.words.now r.sets) }
-    ensures reached { IfOk result (HasReached graphs.now.gap.outer.value graphs.now.load.outer.value) }
+    ensures reached { IfOk result (HasReached graphs.now.gap.merged.value graphs.now.load.merged.value) }
 {
     let others = station.part_count() - 1;
     let sets = possible_sets(
         alloc,
         station,
         parts,
-        graphs.gap.outer.as_ref(),
+        graphs.gap.merged.as_ref(),
         bay,
         others,
         all,
@@ -95,7 +95,7 @@ pub(crate) fn judge_words(
     requires part { OfPart station.now bay.0 (a_switch op.switch.0) }
     requires all { AreAllWords (lettered station.now parts.now) all.now }
     requires sets { ArePossibleSets (lettered station.now parts.now) bay.0 all.now.words.now reached.now.sets }
-    requires reached { HasReached graphs.now.gap.outer.value graphs.now.load.outer.value reached.now }
+    requires reached { HasReached graphs.now.gap.merged.value graphs.now.load.merged.value reached.now }
     ensures { IfOk result (Decides station.now (IsReading all.now.words.now) op) }
 {
     let sides = sides_of(

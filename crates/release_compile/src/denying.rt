@@ -37,7 +37,7 @@ fn find_in_gap(
 ) -> Result<Option<Found>, Memory>
     requires own { IsOwn station.now place.bay.0 op.switch.0 place.first place.others }
     requires words { AreWords station.now own.now }
-    requires sets { AreSetsOf graphs.now.outer.value.layers sets.now }
+    requires sets { AreSetsOf graphs.now.merged.value.layers sets.now }
     requires graphs { AreViewGraphs GapView (lettered station.now parts.now) place.bay.0 place.first (suc place.others)
         (view_of graphs.now) }
     ensures { IfOk result (λ o. MatchOption o
@@ -60,7 +60,7 @@ fn find_in_gap(
             )? {
                 return Ok(None);
             }
-            let marks = marked(alloc, graphs.outer.as_ref(), sets)?;
+            let marks = marked(alloc, graphs.merged.as_ref(), sets)?;
             let side = view_side(
                 alloc,
                 View::Gap,
@@ -92,7 +92,7 @@ fn find_in_load(
 ) -> Result<Option<Found>, Memory>
     requires own { IsOwn station.now place.bay.0 op.switch.0 place.first place.others }
     requires words { AreWords station.now own.now }
-    requires sets { AreSetsOf graphs.now.outer.value.layers sets.now }
+    requires sets { AreSetsOf graphs.now.merged.value.layers sets.now }
     requires graphs { AreViewGraphs LoadView (lettered station.now parts.now) place.bay.0 place.first (suc place.others)
         (view_of graphs.now) }
     requires free { IsGapFree (lettered station.now parts.now) place.bay.0 own.now sets.now op }
@@ -117,7 +117,7 @@ fn find_in_load(
     )? {
         return Ok(None);
     }
-    let marks = marked(alloc, graphs.outer.as_ref(), sets)?;
+    let marks = marked(alloc, graphs.merged.as_ref(), sets)?;
     let side = view_side(
         alloc,
         View::Load,
@@ -152,8 +152,8 @@ pub(crate) fn find_denial(
 ) -> Result<Option<Found>, Memory>
     requires own { IsOwn station.now place.bay.0 op.switch.0 place.first place.others }
     requires words { AreWords station.now own.now }
-    requires gap_sets { AreSetsOf graphs.now.gap.outer.value.layers sets.now }
-    requires load_sets { AreSetsOf graphs.now.load.outer.value.layers sets.now }
+    requires gap_sets { AreSetsOf graphs.now.gap.merged.value.layers sets.now }
+    requires load_sets { AreSetsOf graphs.now.load.merged.value.layers sets.now }
     requires gap { AreViewGraphs GapView (lettered station.now parts.now) place.bay.0 place.first (suc place.others)
         (view_of graphs.now.gap) }
     requires load { AreViewGraphs LoadView (lettered station.now parts.now) place.bay.0 place.first (suc place.others)

@@ -41,15 +41,15 @@ fn sets_heard(
     requires heard { length heard.now ≡ part_count station.now }
     requires fits { HeardFit (by_indices (lettered station.now parts.now)) bay.0 heard.now }
     ensures sets { IfOk result (AreHeardSets (lettered station.now parts.now) bay.0 heard.now) }
-    ensures gap { IfOk result (AreSetsOf graphs.now.gap.outer.value.layers) }
-    ensures load { IfOk result (AreSetsOf graphs.now.load.outer.value.layers) }
+    ensures gap { IfOk result (AreSetsOf graphs.now.gap.merged.value.layers) }
+    ensures load { IfOk result (AreSetsOf graphs.now.load.merged.value.layers) }
 {
     let others = station.part_count() - 1;
     let sets = heard_sets(
         alloc,
         station,
         parts,
-        graphs.gap.outer.as_ref(),
+        graphs.gap.merged.as_ref(),
         bay,
         others,
         heard,

@@ -14,8 +14,8 @@ use std::alloc::Global;
 
 /// A bay tells another exactly where it is a partner of it: the set of its indices, as few bytes as hold a bit for each
 /// index of the bay, index 0 in the highest bit of the first byte, and spare bits 0. Else its summary is empty. Time of
-/// a verdict: the edges of the bay's outer graphs and of the switch's inner ones, and the steps of the parts; memory
-/// for their nodes, and for the indices of the parts.
+/// a verdict: the edges of the bay's outer graphs, of which labels are one that no inner one tells apart, and of the
+/// switch's inner ones, and the steps of the parts; memory for their nodes, and for the indices of the parts.
 impl<'a> Judge for GraphJudge<'a> {
     ghost use Rattle.release_compile.specs.Summaries.{judges};
     ghost use Rattle.release_compile.specs.Judging.{ground};

@@ -78,7 +78,7 @@ pub(crate) fn may_say(
     requires graphs { AreViewGraphs view (lettered station.now parts.now) place.bay.0 place.first (suc place.others)
         (view_of graphs.now) }
     ensures { IfOk result (λ may. IsFalse may → (sets : List (List Bool)) →
-        AreSetsOf graphs.now.outer.value.layers sets →
+        AreSetsOf graphs.now.merged.value.layers sets →
         SaysNoRule view (lettered station.now parts.now) place.bay.0 switch.0 own.now sets) }
 {
     let _count = station.switch_count();

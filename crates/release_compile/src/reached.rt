@@ -31,12 +31,12 @@ pub(crate) fn marked(alloc: Global, graph: &Graph, sets: &ChoiceSets) -> Result<
 
 // What the outer graphs of a bay reach by the sets.
 pub(crate) fn reach(alloc: Global, graphs: &BayGraphs, sets: ChoiceSets) -> Result<Reached, Memory>
-    requires gap { AreSetsOf graphs.now.gap.outer.value.layers sets }
-    requires load { AreSetsOf graphs.now.load.outer.value.layers sets }
+    requires gap { AreSetsOf graphs.now.gap.merged.value.layers sets }
+    requires load { AreSetsOf graphs.now.load.merged.value.layers sets }
     ensures sets { IfOk result (λ r. r.sets ≡ sets) }
-    ensures reached { IfOk result (HasReached graphs.now.gap.outer.value graphs.now.load.outer.value) }
+    ensures reached { IfOk result (HasReached graphs.now.gap.merged.value graphs.now.load.merged.value) }
 {
-    let gap = marked(alloc, graphs.gap.outer.as_ref(), &sets)?;
-    let load = marked(alloc, graphs.load.outer.as_ref(), &sets)?;
+    let gap = marked(alloc, graphs.gap.merged.as_ref(), &sets)?;
+    let load = marked(alloc, graphs.load.merged.as_ref(), &sets)?;
     Ok(Reached { sets, gap, load })
 }

@@ -83,10 +83,10 @@ pub(crate) fn view_side<'a>(
 ) -> Result<Side<'a>, Memory>
     requires own { IsOwn station.now place.bay.0 switch.0 place.first place.others }
     requires words { AreWords station.now own.now }
-    requires sets { AreSetsOf graphs.now.outer.value.layers sets.now }
-    requires marks { AreMarksOf graphs.now.outer.value marks.now }
-    requires reached { MarksReached graphs.now.outer.value sets.now marks.now.labels }
-    requires paths { PathsLead graphs.now.outer.value sets.now marks.now }
+    requires sets { AreSetsOf graphs.now.merged.value.layers sets.now }
+    requires marks { AreMarksOf graphs.now.merged.value marks.now }
+    requires reached { MarksReached graphs.now.merged.value sets.now marks.now.labels }
+    requires paths { PathsLead graphs.now.merged.value sets.now marks.now }
     requires graphs { AreViewGraphs view (lettered station.now parts.now) place.bay.0 place.first (suc place.others)
         (view_of graphs.now) }
     ensures side { IfOk result (IsSide view (lettered station.now parts.now) place.bay.0 switch.0 place.first
@@ -98,7 +98,7 @@ pub(crate) fn view_side<'a>(
     let inner = &graphs.inner[index];
     let made = side(
         alloc,
-        graphs.outer.as_ref(),
+        graphs.merged.as_ref(),
         inner,
         sets,
         marks,
@@ -125,7 +125,7 @@ pub(crate) fn sides_of<'a>(
     requires bay { bay.0 < part_count station.now }
     requires part { OfPart station.now bay.0 (a_switch switch.0) }
     requires words { AreWords station.now own.now }
-    requires reached { HasReached graphs.now.gap.outer.value graphs.now.load.outer.value reached.now }
+    requires reached { HasReached graphs.now.gap.merged.value graphs.now.load.merged.value reached.now }
     ensures bay { IfOk result (λ s. s.place.bay ≡ bay) }
     ensures sides { IfOk result (AreSides (lettered station.now parts.now) switch.0 own.now reached.now.sets) }
 {

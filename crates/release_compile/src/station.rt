@@ -133,7 +133,7 @@ fn judge_both(
     requires part { OfPart station.now bay.0 (a_switch switch.0) }
     requires all { AreAllWords (lettered station.now parts.now) all.now }
     requires sets { ArePossibleSets (lettered station.now parts.now) bay.0 all.now.words.now reached.now.sets }
-    requires reached { HasReached graphs.now.gap.outer.value graphs.now.load.outer.value reached.now }
+    requires reached { HasReached graphs.now.gap.merged.value graphs.now.load.merged.value reached.now }
     ensures { IfOk result (AreVerdictsOf station.now all.now.words.now switch.0) }
 {
     let sides = sides_of(

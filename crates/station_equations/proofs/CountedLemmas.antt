@@ -109,18 +109,18 @@ module _ (view : View) (a : Lettered) (b first count : ℕ) (g : ViewOf) (gs : A
   -- the outer graph
   pub outer_few : node_total g.outer ≤ h.outer_edges
   outer_few =
-      let len : length g.outer.layers ≡ length h.outer.sizes = omega (arith, gs.outer.count, h.one_more, h.outer.len) in
+      let len : length g.outer.layers ≡ length h.outer.sizes = omega (arith, gs.unmerged.outer.count, h.one_more, h.outer.len) in
       let le = outer_sum g.outer.layers h.outer.sizes len (λ j s at.
       let lt : j < length g.outer.layers = omega (arith, slice_get_within h.outer.sizes j s at, len) in
       let small = small_layer view (IsNeededOuter a.diagram b j) (Among (parts_before a.diagram b j)) a.diagram
-      (layer_at g.outer.layers j) s.views (gs.outer_small j lt) (h.outer.views j s at) in
+      (layer_at g.outer.layers j) s.views (gs.unmerged.outer_small j lt) (h.outer.views j s at) in
       omega (arith, small, edges_of s (some_index a.diagram (other_of 0 b j) s.choices (h.outer.indices j s at)))) in
       omega (arith, le, h.outer.all)
 
   inner_is : (i size : ℕ) (k : Layered) → slice_get g.inner i ≡ Some k →
       SwitchHas view a.diagram b (first + i) first count (AreSoMany a.diagram) size → inner_total k ≤ size
   inner_is i size k at has =
-      let is = gs.inner.each i k at in
+      let is = gs.unmerged.inner.each i k at in
       let others : is.others ≡ has.others = omega (arith, is.one_more, has.one_more) in
       let le = behind_first k.layers has.inner.sizes (omega (arith, is.graph.count, has.inner.len, others)) (λ j n here.
       let lt : j < is.others = omega (arith, slice_get_within has.inner.sizes j n here, has.inner.len, others) in
@@ -137,7 +137,7 @@ module _ (view : View) (a : Lettered) (b first count : ℕ) (g : ViewOf) (gs : A
   pub view_few : (bay : BayOf) (m i size : ℕ) → bay.first ≡ first → m ≡ first + i →
       slice_get h.inner.each i ≡ Some size → view_nodes bay g m ≤ size + h.outer_edges
   view_few bay m i size begins is at =
-      let lt : i < length g.inner = omega (arith, slice_get_within h.inner.each i size at, h.inner.len, gs.inner.len) in
+      let lt : i < length g.inner = omega (arith, slice_get_within h.inner.each i size at, h.inner.len, gs.unmerged.inner.len) in
       let k = element g.inner i lt in
       let place : m - bay.first ≡ i = omega (arith, begins, is) in
       let same : graph_of bay g m ≡ k.0 = ap (λ n. get_or g.inner n no_graph) place ∙ found i k.0 k.1 in

@@ -70,12 +70,12 @@ ready view a b m first count bay v g h x built gs are at here same_g same_h =
     } in
     let place : m - bay.first ≡ m - first = ap (λ n. m - n) first_is in
     let place_in : m - bay.first < length v.inner =
-    omega (arith, place, range.0, range.1, gs_here.inner.len, one_more) in
+    omega (arith, place, range.0, range.1, gs_here.unmerged.inner.len, one_more) in
     let found = inner_at view a b m first (count - 1) own v gs_here (m - bay.first) h place
     (same_h ∙ get_or_default v.inner (m - bay.first) no_graph h place_in) in
     record {
-      names = gs_here.names;
-      outer = subst (λ k. IsOuter view a b k gs_here.names) (sym same_g) gs_here.outer;
+      names = gs_here.unmerged.names;
+      outer = subst (λ k. IsOuter view a b k gs_here.unmerged.names) (sym same_g) gs_here.unmerged.outer;
       inner = found.graph;
       labels = found.labels;
       own = own;

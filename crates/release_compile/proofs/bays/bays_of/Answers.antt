@@ -4,8 +4,8 @@ use Rattle.judge_pool.specs.Lettered.{Lettered, lettered}
 use Rattle.judge_graphs.specs.Built.{BayOf, AreBays}
 use Rattle.judge_graphs.specs.BuiltView.{seen_part}
 use Rattle.judge_graphs.proofs.BayLemmas.{bays_none, bays_more}
-use Rattle.judge_graphs.specs.Telling.{HaveTold}
-use Rattle.judge_graphs.proofs.TellingLemmas.{told_more}
+use Rattle.judge_graphs.specs.Telling.{HaveMerged}
+use Rattle.judge_graphs.proofs.TellingLemmas.{merged_more}
 use Rattle.release_compile.proofs.WideLemmas.{keep_more, first_wide}
 use Rattle.judge_pool.proofs.ErrorLemmas.{passed_on}
 use Rattle.station_graph.specs.Diagram.{part_count}
@@ -16,7 +16,7 @@ pub loop-part-init : goal.loop-part-init
 loop-part-init c =
     let a : Lettered = lettered c.args.station.now c.args.parts.now in
     record {
-      told = subst (λ bs. HaveTold bs) (sym c.new-bays.ensures.items) (λ b g at. cc);
+      told = subst (λ bs. HaveMerged bs) (sym c.new-bays.ensures.items) (λ b g at. cc);
       gap = c.requires.gap;
       load = c.requires.load;
       spent = omega arith;
@@ -36,8 +36,8 @@ loop-part-preserved c =
     ap (map seen_part) c.in_ok-keep-in-Ok.ensures ∙ map-append seen_part c.loop-part.bays.items _ in
     record {
       told =
-          subst (λ bs. HaveTold bs) (sym c.in_ok-keep-in-Ok.ensures)
-          (told_more c.loop-part.bays.items c.in-Ok.made.graphs c.loop-part.invariant.told c.in-Ok.ensures.told);
+          subst (λ bs. HaveMerged bs) (sym c.in_ok-keep-in-Ok.ensures)
+          (merged_more c.loop-part.bays.items c.in-Ok.made.graphs c.loop-part.invariant.told c.in-Ok.ensures.told);
       gap = c.in_ok-renew_both-in-Ok.ensures.gap;
       load = c.in_ok-renew_both-in-Ok.ensures.load;
       spent = omega (arith, c.allowed-left.ensures.all, c.loop-part.invariant.spent);

@@ -4,14 +4,14 @@ use Rattle.judge_graphs.specs.Built.{AreBays}
 use Rattle.release_compile.specs.Judging.{KeepEdges}
 use Rattle.judge_graphs.specs.BuiltView.{seen_part}
 use Rattle.judge_graphs.specs.Stocking.{IsStock}
-use Rattle.judge_graphs.specs.Telling.{HaveTold}
+use Rattle.judge_graphs.specs.Telling.{HaveMerged}
 use Rattle.judge_pool.specs.declared.view.View.TheVariants.{Gap, Load}
 use Rattle.release_compile.proofs.bays.bays_of.Given as goal
 use Rattle.judge_pool.specs.declared.limits.TheConstants.{ALL_EDGES}
 
 abbrev pub invariant-loop-part : goal.invariant-loop-part
 invariant-loop-part l = record {
-  told : HaveTold l.bays.items;
+  told : HaveMerged l.bays.items;
   gap : IsStock (lettered l.station l.parts) Gap l.gap;
   load : IsStock (lettered l.station l.parts) Load l.load;
   spent : l.spent ≤ ALL_EDGES;

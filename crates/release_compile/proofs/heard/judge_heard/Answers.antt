@@ -8,6 +8,8 @@ use Rattle.judge_pool.specs.Lettered.{Lettered, lettered, index_count}
 use Rattle.station_graph.specs.CentralRules.{Breaks}
 use Rattle.release_compile.specs.Allowed.{Within}
 use Rattle.release_compile.specs.Denying.{IsDenial, IsFree}
+use Rattle.judge_graphs.specs.BuiltView.{view_of}
+use Rattle.judge_graphs.proofs.MergedLemmas.{merged_is}
 use Rattle.release_compile.proofs.HeardLemmas.{allowed_index}
 use Rattle.release_compile.proofs.KnownLemmas.{decides_known}
 use Rattle.release_compile.proofs.VerdictLemmas.{allowed_length, allowed_at}
@@ -24,9 +26,11 @@ vector_of-requires-clause-outer c =
     let denial = MatchOption-at_some (IsFree a p.bay.0 own sets op)
     (IsDenial a p.bay.0 op.switch.0 p.first p.others own sets op) c.in-Some.found c.in-Some.is
     c.in_ok-find_denial.ensures in
-    let len = length_sets c.args.graphs.now.gap.outer.value.layers sets c.in_ok-sets.ensures.gap in
+    let len = length_sets c.args.graphs.now.gap.merged.value.layers sets c.in_ok-sets.ensures.gap in
+    let of_others = merged_is Gap a c.args.bay.0 c.args.graphs.now.first c.args.graphs.now.count
+    (view_of c.args.graphs.now.gap) c.requires.graphs.gap in
     allowed_length sets c.in-Some.found.choices.outer denial.allows
-    ∙ (omega (arith, len, c.requires.graphs.gap.outer.count, c.place_of-place.ensures.parts))
+    ∙ (omega (arith, len, of_others.count, c.place_of-place.ensures.parts))
 
 pub vector_of-requires-clause-indices : goal.vector_of-requires-clause-indices
 vector_of-requires-clause-indices c j k at =
@@ -41,7 +45,9 @@ vector_of-requires-clause-indices c j k at =
     let same : p.bay.0 ≡ c.args.bay.0 = ap (λ (b : BayId). b.0) c.place_of-place.ensures.bay in
     let g = c.requires.graphs.gap in
     subst (λ b. k < index_count a (other_of 0 b j)) (sym same)
-    (allowed_index Gap a c.args.bay.0 g.names c.args.graphs.now.gap.outer.value sets g.outer c.in_ok-sets.ensures.gap
+    (allowed_index a c.args.bay.0 c.args.graphs.now.gap.merged.value sets
+    (merged_is Gap a c.args.bay.0 c.args.graphs.now.first c.args.graphs.now.count (view_of c.args.graphs.now.gap) g)
+    c.in_ok-sets.ensures.gap
     j k (allowed_at sets c.in-Some.found.choices.outer j k denial.allows at))
 
 pub vector_of-requires-clause-inner : goal.vector_of-requires-clause-inner

@@ -33,6 +33,6 @@ judge_both-requires-clause-reached c =
     let reach = c.args.reach.now in
     let e = same_bay j.diagram _ reach.bay.0 _ c.args.switch.0 c.station-station.ensures.value
     c.requires.bay c.switch_bay-bay.ensures.value in
-    subst (λ (g : BayOf). HasReached g.gap.outer g.load.outer reach.reached) (sym c.bay-graphs.ensures.value)
-    (subst (λ (b : ℕ). HasReached (bay_at j b).gap.outer (bay_at j b).load.outer reach.reached) e
+    subst (λ (g : BayOf). HasReached g.gap.merged g.load.merged reach.reached) (sym c.bay-graphs.ensures.value)
+    (subst (λ (b : ℕ). HasReached (bay_at j b).gap.merged (bay_at j b).load.merged reach.reached) e
     c.requires.reach.reached)
